@@ -1,0 +1,47 @@
+// Numbers as bytes, the lowest byte first.
+//
+//     little_endian::put(&mut bytes[2..10], fanout);
+//     let fanout = little_endian::get(&bytes[2..10]);
+//
+// The slice's length is the number's width, so that one function serves the widths 1, 2, 4 and 8.
+ghost use mathlib.Core.Path.{_≡_};
+ghost use lib.ListN.{length, take};
+ghost use Rattle.little_endian.specs.LittleEndian.{word, bytesOf};
+
+// As many bytes as make a u64.
+const WIDEST: usize = 8;
+
+fn wide(byte: u8) -> u64
+    ensures { λ r. ⌜ r ≡ byte ⌝ }
+{
+    byte as u64
+}
+
+// The number in `bytes`; where there are more than eight, in the first eight.
+pub fn get(bytes: &[u8]) -> u64
+    ensures { λ r. ⌜ r ≡ word (take 8 (now (bytes .entry))) ⌝ }
+{
+    let mut left = bytes.len();
+    if left > WIDEST {
+        left = WIDEST;
+    }
+    let mut number = 0u64;
+    while 0 < left {
+        left -= 1;
+        number = number * 256 + wide(bytes[left]);
+    }
+    number
+}
+
+// Writes the lowest bytes of `number` over all of `bytes`.
+pub fn put(bytes: &mut [u8], number: u64)
+    ensures { λ _. ⌜ now (bytes .exit) ≡ bytesOf (length (now (bytes .entry))) number ⌝ }
+{
+    let mut rest = number;
+    let mut i = 0;
+    while i < bytes.len() {
+        bytes[i] = (rest % 256) as u8;
+        rest = rest / 256;
+        i += 1;
+    }
+}
