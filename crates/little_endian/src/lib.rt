@@ -5,6 +5,7 @@
 //
 // The slice's length is the number's width, so that one function serves the widths 1, 2, 4 and 8.
 ghost use mathlib.Core.Path.{_≡_};
+ghost use Prim.Native.Nat.{min};
 ghost use lib.ListN.{length, take};
 ghost use Rattle.little_endian.specs.LittleEndian.{word, bytesOf};
 
@@ -17,14 +18,17 @@ fn wide(byte: u8) -> u64
     byte as u64
 }
 
+fn at_most_widest(count: usize) -> usize
+    ensures { λ r. ⌜ r ≡ min 8 count ⌝ }
+{
+    if count < WIDEST { count } else { WIDEST }
+}
+
 // The number in `bytes`; where there are more than eight, in the first eight.
 pub fn get(bytes: &[u8]) -> u64
     ensures { λ r. ⌜ r ≡ word (take 8 (now (bytes .entry))) ⌝ }
 {
-    let mut left = bytes.len();
-    if left > WIDEST {
-        left = WIDEST;
-    }
+    let mut left = at_most_widest(bytes.len());
     let mut number = 0u64;
     while 0 < left {
         left -= 1;

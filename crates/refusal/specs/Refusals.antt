@@ -1,0 +1,74 @@
+-- Document 01, "Refusal numbers". Assumes nothing.
+use Prim.Native.Nat.{ℕ}
+use Rattle.refusal.specs.declared.Refusal.{Refusal}
+
+abbrev pub refusal : ℕ → ℕ → Refusal
+refusal number index = record { number = number; index = index }
+
+-- a lent slice or a capacity has a wrong length or value
+abbrev pub wrongShape : ℕ
+wrongShape = 1
+
+-- an object beyond the largest class
+abbrev pub tooLarge : ℕ
+tooLarge = 2
+
+-- a slab, a slot or a packed location out of range
+abbrev pub outOfRange : ℕ
+outOfRange = 3
+
+-- the check differs
+abbrev pub checkDiffers : ℕ
+checkDiffers = 4
+
+-- a stored length, or an object to be written, beyond the room of its slot
+abbrev pub tooLong : ℕ
+tooLong = 5
+
+-- a cookie version that is not 1
+abbrev pub unknownVersion : ℕ
+unknownVersion = 6
+
+-- the fanout differs
+abbrev pub fanoutDiffers : ℕ
+fanoutDiffers = 7
+
+-- id 0, an id at or past capacity, one not held or, in a lookup, one without location
+abbrev pub noSuchId : ℕ
+noSuchId = 8
+
+-- the id of an earlier update of the batch, or of an earlier rebuild row
+abbrev pub repeatedId : ℕ
+repeatedId = 9
+
+-- no free number
+abbrev pub noneFree : ℕ
+noneFree = 10
+
+-- a batch is open
+abbrev pub batchOpen : ℕ
+batchOpen = 11
+
+-- no batch is open
+abbrev pub noBatch : ℕ
+noBatch = 12
+
+-- the tables contradict each other, or a kept batch is none
+abbrev pub tablesDisagree : ℕ
+tablesDisagree = 13
+
+-- a fill ratio r or a target t out of range
+abbrev pub ratioOutOfRange : ℕ
+ratioOutOfRange = 14
+
+-- over 256 updates
+abbrev pub tooMany : ℕ
+tooMany = 15
+
+-- a rebuild row has an earlier row's location
+abbrev pub repeatedLocation : ℕ
+repeatedLocation = 16
+
+-- a cut is reported where the test says keep
+abbrev pub nothingToCut : ℕ
+nothingToCut = 17

@@ -1,0 +1,47 @@
+// What a call answers where it does not grant: the number of document 01's table, and the index it speaks of.
+//
+//     return Class::Refused(Refusal { number: Refusal::TOO_LARGE, index: 0 });
+//
+// The index counts from 0: the update's where the refusal is given per update, the row's where per row, the slab's where a
+// batch finds no free slot, and 0 elsewhere. Numbers 18 to 26 belong to later requests.
+pub struct Refusal {
+    pub number: u8,
+    pub index: usize,
+}
+
+impl Refusal {
+    // A lent slice or a capacity has a wrong length or value.
+    pub const WRONG_SHAPE: u8 = 1;
+    // An object beyond the largest class.
+    pub const TOO_LARGE: u8 = 2;
+    // A slab, a slot or a packed location out of range.
+    pub const OUT_OF_RANGE: u8 = 3;
+    // The check differs.
+    pub const CHECK_DIFFERS: u8 = 4;
+    // A stored length, or an object to be written, beyond the room of its slot.
+    pub const TOO_LONG: u8 = 5;
+    // A cookie version that is not 1.
+    pub const UNKNOWN_VERSION: u8 = 6;
+    // The fanout differs.
+    pub const FANOUT_DIFFERS: u8 = 7;
+    // Id 0, an id at or past capacity, one not held or, in a lookup, one without location.
+    pub const NO_SUCH_ID: u8 = 8;
+    // The id of an earlier update of the batch, or of an earlier rebuild row.
+    pub const REPEATED_ID: u8 = 9;
+    // No free number.
+    pub const NONE_FREE: u8 = 10;
+    // A batch is open.
+    pub const BATCH_OPEN: u8 = 11;
+    // No batch is open.
+    pub const NO_BATCH: u8 = 12;
+    // The tables contradict each other, or a kept batch is none.
+    pub const TABLES_DISAGREE: u8 = 13;
+    // A fill ratio r or a target t out of range.
+    pub const RATIO_OUT_OF_RANGE: u8 = 14;
+    // Over 256 updates.
+    pub const TOO_MANY: u8 = 15;
+    // A rebuild row has an earlier row's location.
+    pub const REPEATED_LOCATION: u8 = 16;
+    // A cut is reported where the test says keep.
+    pub const NOTHING_TO_CUT: u8 = 17;
+}

@@ -1,0 +1,148 @@
+// The 78 slab sizes, what a frame takes of a slot, and the class of an object (document 01, "Sizes and frames").
+//
+//     match sizes::slab_for_size(60) {
+//         Class::Slab(slab) => ..,        // slab 1: 60 bytes and their frame need 65 of its 80
+//         Class::Refused(refusal) => ..,  // 2, beyond the largest class
+//     }
+ghost use mathlib.Core.Path.{_≡_};
+ghost use Prim.Native.Nat.{_+_};
+ghost use lib.Dec.{leb};
+ghost use Rattle.sizes.specs.Sizes.{slabSizes, sizeOf, isSlabSize, fieldWidth, room, classOf};
+use refusal::Refusal;
+
+pub const SLABS: usize = 78;
+
+pub const CHECK_WIDTH: u64 = 4;
+
+pub const SLAB_SIZES: [u64; SLABS] = [
+    64,
+    80,
+    96,
+    112,
+    128,
+    160,
+    192,
+    224,
+    256,
+    320,
+    384,
+    448,
+    512,
+    640,
+    768,
+    896,
+    1024,
+    1280,
+    1536,
+    1792,
+    2048,
+    2560,
+    3072,
+    3584,
+    4096,
+    5120,
+    6144,
+    7168,
+    8192,
+    10240,
+    12288,
+    14336,
+    16384,
+    20480,
+    24576,
+    28672,
+    32768,
+    40960,
+    49152,
+    57344,
+    65536,
+    98304,
+    131072,
+    163840,
+    196608,
+    262144,
+    393216,
+    524288,
+    786432,
+    1048576,
+    1572864,
+    2097152,
+    3145728,
+    4194304,
+    6291456,
+    8388608,
+    12582912,
+    16777216,
+    25165824,
+    33554432,
+    50331648,
+    67108864,
+    100663296,
+    134217728,
+    201326592,
+    268435456,
+    402653184,
+    536870912,
+    805306368,
+    1073741824,
+    1610612736,
+    2147483648,
+    3221225472,
+    4294967296,
+    6442450944,
+    8589934592,
+    12884901888,
+    17179869184,
+];
+
+pub enum Class {
+    Slab(usize),
+    Refused(Refusal),
+}
+
+// The size of a slab; 0 for a number that is no slab.
+pub fn slab_size(slab: usize) -> u64
+    ensures { λ r. ⌜ r ≡ sizeOf slab ⌝ }
+{
+    if slab < SLABS { SLAB_SIZES[slab] } else { 0 }
+}
+
+// The bytes of the length field in a slot of size s.
+pub fn field_width(s: u64) -> u64
+    ensures { λ r. ⌜ r ≡ fieldWidth s ⌝ }
+{
+    if s <= 255 {
+        1
+    } else if s <= 65535 {
+        2
+    } else if s <= 4294967295 {
+        4
+    } else {
+        8
+    }
+}
+
+// Whether a slot of size s takes n bytes with their frame. No sum that could wrap: s is asked for the frame first.
+fn takes(s: u64, n: u64) -> bool
+    ensures { λ r. ⌜ r ≡ leb (n + fieldWidth s + 4) s ⌝ }
+{
+    let frame = field_width(s) + CHECK_WIDTH;
+    frame <= s && n <= s - frame
+}
+
+// The first slab that n bytes and their frame fit.
+pub fn slab_for_size(n: u64) -> Class
+    ensures { λ r. ⌜ r ≡ classOf n ⌝ }
+{
+    let mut slab = 0;
+    while slab < SLABS {
+        if takes(SLAB_SIZES[slab], n) {
+            return Class::Slab(slab);
+        }
+        slab += 1;
+    }
+    Class::Refused(Refusal {
+        number: Refusal::TOO_LARGE,
+        index: 0,
+    })
+}
