@@ -1,13 +1,13 @@
 -- Laws of addresses: what is unpacked is in range, and packing and unpacking undo each other. Assumes nothing.
-use mathlib.Core.Bool.{Bool, true, false, cond, _||_}
+use mathlib.Core.Bool.{Bool, true, false, cond, _&&_, _||_}
 use mathlib.Core.Path.{_≡_, refl, sym, ap, _∙_}
 use Prim.Native.Nat.{ℕ, _+_, _*_, _-_, _≤_, _<_, _/_, _%_}
 use native.Mathlib.Omega.{arith}
 use lib.Dec.{leb, ltb, eqb}
-use borrow.Author.Tests.{ltb-false, leb-false, eqb-false, lt-ltb, le-ltb, lt-leb, ne-eqb}
+use borrow.Author.Tests.{ltb-true, ltb-false, leb-true, leb-false, lt-ltb, le-leb, lt-leb, ne-eqb}
 use Rattle.refusal.specs.Refusals.{refusal, wrongShape, outOfRange}
 use Rattle.refusal.proofs.Tests.{clash, or-false}
-use Rattle.address.specs.Address.{badSlots, packed, unpacked, unit, slabs}
+use Rattle.address.specs.Address.{badSlots, packing, packed, unpacked, unit, slabs}
 use Rattle.address.specs.declared.SlabAddress.{SlabAddress}
 use Rattle.address.specs.declared.Packed.{Packed}
 use Rattle.address.specs.declared.Packed.the-variants as P
@@ -27,44 +27,44 @@ pub record Comes (slots location : ℕ) (a : SlabAddress) : Type 0 where
   pub capacity : badSlots slots ≡ false
   pub slab-lt : a .slab < slabs
   pub slot-lt : a .slot < slots
-  pub whole : (a .slab + 1) * unit + a .slot ≡ location
+  pub whole : packing (a .slab) (a .slot) ≡ location
 
 pub unpacked-at : (slots location : ℕ) (a : SlabAddress) → unpacked slots location ≡ U.At a → Comes slots location a
 unfolding unpacked
 unpacked-at slots location a =
-    by (badSlots slots) (eqb location 0) (ltb (location / unit) 1) (ltb slabs (location / unit)) (leb slots (location % unit)) refl refl refl refl
+    by (badSlots slots) (eqb location 0) (leb 1 (location / unit)) (leb (location / unit) slabs) (ltb (location % unit) slots) refl refl refl refl
   where
-    by : (s z l h t : Bool) → badSlots slots ≡ s → ltb (location / unit) 1 ≡ l → ltb slabs (location / unit) ≡ h → leb slots (location % unit) ≡ t
-      → cond s (U.Refused (refusal wrongShape 0)) (cond z U.NoObject (cond (l || h || t) (U.Refused (refusal outOfRange 0)) (U.At (record { slab = location / unit - 1; slot = location % unit })))) ≡ U.At a
-      → Comes slots location a
+    by : (s z l h t : Bool) → badSlots slots ≡ s → leb 1 (location / unit) ≡ l → leb (location / unit) slabs ≡ h → ltb (location % unit) slots ≡ t
+        → cond s (U.Refused (refusal wrongShape 0)) (cond z U.NoObject (cond (l && h && t) (U.At (record { slab = location / unit - 1; slot = location % unit })) (U.Refused (refusal outOfRange 0)))) ≡ U.At a
+        → Comes slots location a
     by true z l h t o p q r e = let n : _≡_ {A = ℕ} 0 1 = cc in absurd (omega arith)
     by false true l h t o p q r e = let n : _≡_ {A = ℕ} 0 1 = cc in absurd (omega arith)
-    by false false true h t o p q r e = let n : _≡_ {A = ℕ} 0 1 = cc in absurd (omega arith)
-    by false false false true t o p q r e = let n : _≡_ {A = ℕ} 0 1 = cc in absurd (omega arith)
-    by false false false false true o p q r e = let n : _≡_ {A = ℕ} 0 1 = cc in absurd (omega arith)
-    by false false false false false o p q r e =
+    by false false false h t o p q r e = let n : _≡_ {A = ℕ} 0 1 = cc in absurd (omega arith)
+    by false false true false t o p q r e = let n : _≡_ {A = ℕ} 0 1 = cc in absurd (omega arith)
+    by false false true true false o p q r e = let n : _≡_ {A = ℕ} 0 1 = cc in absurd (omega arith)
+    by false false true true true o p q r e =
         let b : location / unit - 1 ≡ a .slab = cc in
         let s : location % unit ≡ a .slot = cc in
         record {
-            capacity = o;
-            slab-lt = omega (arith, ltb-false);
-            slot-lt = omega (arith, leb-false);
-            whole = omega (arith, ltb-false)
+          capacity = o;
+          slab-lt = omega (arith, leb-true);
+          slot-lt = omega (arith, ltb-true);
+          whole = omega (arith, leb-true);
         }
 
 -- ---- packing, then unpacking
 pub unpacked-packed : (slots : ℕ) (a : SlabAddress) → badSlots slots ≡ false → a .slab < slabs → a .slot < slots
-  → unpacked slots ((a .slab + 1) * unit + a .slot) ≡ U.At a
+    → unpacked slots (packing (a .slab) (a .slot)) ≡ U.At a
 unfolding unpacked
 unpacked-packed slots a ok b s =
     let r = slots-range slots ok in
-    let d : ((a .slab + 1) * unit + a .slot) / unit ≡ a .slab + 1 = omega arith in
-    let m : ((a .slab + 1) * unit + a .slot) % unit ≡ a .slot = omega arith in
+    let d : (packing (a .slab) (a .slot)) / unit ≡ a .slab + 1 = omega arith in
+    let m : (packing (a .slab) (a .slot)) % unit ≡ a .slot = omega arith in
     let k : a .slab + 1 - 1 ≡ a .slab = omega arith in
-    let nz : eqb ((a .slab + 1) * unit + a .slot) 0 ≡ false = ne-eqb ((a .slab + 1) * unit + a .slot) 0 (λ (e : (a .slab + 1) * unit + a .slot ≡ 0). omega arith) in
-    let low : ltb (a .slab + 1) 1 ≡ false = le-ltb (a .slab + 1) 1 (omega arith) in
-    let high : ltb slabs (a .slab + 1) ≡ false = le-ltb slabs (a .slab + 1) (omega arith) in
-    let slot : leb slots (a .slot) ≡ false = lt-leb _ _ s in
+    let nz : eqb (packing (a .slab) (a .slot)) 0 ≡ false = ne-eqb (packing (a .slab) (a .slot)) 0 (λ (e : packing (a .slab) (a .slot) ≡ 0). omega arith) in
+    let low : leb 1 (a .slab + 1) ≡ true = le-leb 1 (a .slab + 1) (omega arith) in
+    let high : leb (a .slab + 1) slabs ≡ true = le-leb (a .slab + 1) slabs (omega arith) in
+    let slot : ltb (a .slot) slots ≡ true = lt-ltb _ _ s in
     simp (ok, nz, d, m, low, high, slot, k)
 
 pub packed-location : (slots : ℕ) (a : SlabAddress) (location : ℕ) → packed slots a ≡ P.Location location → unpacked slots location ≡ U.At a
@@ -72,13 +72,13 @@ unfolding packed
 packed-location slots a location = by (badSlots slots) (leb slabs (a .slab)) (leb slots (a .slot)) refl refl refl
   where
     by : (s b t : Bool) → badSlots slots ≡ s → leb slabs (a .slab) ≡ b → leb slots (a .slot) ≡ t
-      → cond s (P.Refused (refusal wrongShape 0)) (cond (b || t) (P.Refused (refusal outOfRange 0)) (P.Location ((a .slab + 1) * unit + a .slot))) ≡ P.Location location
-      → unpacked slots location ≡ U.At a
+        → cond s (P.Refused (refusal wrongShape 0)) (cond (b || t) (P.Refused (refusal outOfRange 0)) (P.Location (packing (a .slab) (a .slot)))) ≡ P.Location location
+        → unpacked slots location ≡ U.At a
     by true b t p q r e = let n : _≡_ {A = ℕ} 0 1 = cc in absurd (omega arith)
     by false true t p q r e = let n : _≡_ {A = ℕ} 0 1 = cc in absurd (omega arith)
     by false false true p q r e = let n : _≡_ {A = ℕ} 0 1 = cc in absurd (omega arith)
     by false false false p q r e =
-        let l : (a .slab + 1) * unit + a .slot ≡ location = cc in
+        let l : packing (a .slab) (a .slot) ≡ location = cc in
         rw l at (unpacked-packed slots a p (leb-false _ _ q) (leb-false _ _ r))
 
 -- ---- unpacking, then packing

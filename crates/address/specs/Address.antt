@@ -1,5 +1,5 @@
 -- Document 01, "Addresses". Assumes nothing.
-use mathlib.Core.Bool.{Bool, cond, _||_}
+use mathlib.Core.Bool.{Bool, cond, _&&_, _||_}
 use Prim.Native.Nat.{ℕ, _+_, _*_, _-_, _/_, _%_, _^_}
 use lib.Dec.{leb, ltb, eqb}
 use Rattle.refusal.specs.Refusals.{refusal, wrongShape, outOfRange}
@@ -34,17 +34,23 @@ madeOf slab slot =
     cond (leb slabs slab || ltb largestSlot slot) (M.Refused (refusal outOfRange 0))
     (M.At (record { slab = slab; slot = slot }))
 
--- packing: (slab + 1) × 2^56 + slot
+-- the number that a slab and a slot are packed into: (slab + 1) × 2^56 + slot
+abbrev pub packing : ℕ → ℕ → ℕ
+packing slab slot = (slab + 1) * unit + slot
+
+-- a number that stands for a slab and a slot below the capacity: its top byte is 1 to 78. Zero is none
+abbrev pub isLocation : ℕ → ℕ → Bool
+isLocation slots location = leb 1 (location / unit) && leb (location / unit) slabs && ltb (location % unit) slots
+
 unfoldable pub packed : ℕ → SlabAddress → Packed
 packed slots a =
     cond (badSlots slots) (P.Refused (refusal wrongShape 0))
     (cond (leb slabs (a .slab) || leb slots (a .slot)) (P.Refused (refusal outOfRange 0))
-    (P.Location ((a .slab + 1) * unit + a .slot)))
+    (P.Location (packing (a .slab) (a .slot))))
 
--- unpacking: zero means no object; a top byte of 0 or above 78, or a slot at or past the capacity, is no location
 unfoldable pub unpacked : ℕ → ℕ → Unpacked
 unpacked slots location =
     cond (badSlots slots) (U.Refused (refusal wrongShape 0))
     (cond (eqb location 0) U.NoObject
-    (cond (ltb (location / unit) 1 || ltb slabs (location / unit) || leb slots (location % unit)) (U.Refused (refusal outOfRange 0))
-    (U.At (record { slab = location / unit - 1; slot = location % unit }))))
+    (cond (isLocation slots location) (U.At (record { slab = location / unit - 1; slot = location % unit }))
+    (U.Refused (refusal outOfRange 0))))

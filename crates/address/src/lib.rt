@@ -42,6 +42,7 @@ impl SlabAddress {
     pub const SLABS: usize = 78;
 
     pub const LARGEST_SLOT: usize = 65535;
+
     pub const MOST_SLOTS: usize = 65536;
     // A packed location is (slab + 1) of these, and the slot.
     const UNIT: u64 = 0x100_0000_0000_0000;
@@ -95,15 +96,15 @@ impl SlabAddress {
         }
         let high = (location / Self::UNIT) as usize;
         let slot = (location % Self::UNIT) as usize;
-        if high < 1 || high > Self::SLABS || slot >= slots {
-            return Unpacked::Refused(Refusal {
-                number: Refusal::OUT_OF_RANGE,
-                index: 0,
+        if 1 <= high && high <= Self::SLABS && slot < slots {
+            return Unpacked::At(SlabAddress {
+                slab: high - 1,
+                slot,
             });
         }
-        Unpacked::At(SlabAddress {
-            slab: high - 1,
-            slot,
+        Unpacked::Refused(Refusal {
+            number: Refusal::OUT_OF_RANGE,
+            index: 0,
         })
     }
 }

@@ -8,8 +8,9 @@ use native.Mathlib.Omega.{arith}
 use lib.Dec.{leb, lit≤}
 use lib.ListN.{length, getD, drop, drop-of-length-le, List·getD-eq-default}
 use lib.Seq.{drop-cons}
+use borrow.Author.Tests.{lt-ltb}
 use Rattle.refusal.specs.Refusals.{refusal, tooLarge}
-use Rattle.sizes.specs.Sizes.{slabSizes, sizeOf, fieldWidth, checkWidth, classFrom, classOf}
+use Rattle.sizes.specs.Sizes.{slabSizes, sizeOf, slabs, fieldWidth, checkWidth, firstFit, slabFor, classOf}
 use Rattle.sizes.specs.declared.Class.{Class}
 use Rattle.sizes.specs.declared.Class.the-variants.{Slab, Refused}
 
@@ -29,15 +30,31 @@ pub length-slabSizes : length slabSizes ≡ 78
 unfolding slabSizes
 length-slabSizes = refl
 
--- ---- classFrom: one slab is passed, or is the class
-pub classFrom-turn : (k : ℕ) (ss : List ℕ) (n : ℕ) → k < length ss
-    → classFrom k (drop k ss) n ≡ cond (leb (n + fieldWidth (getD ss k 0) + checkWidth) (getD ss k 0)) (Slab k) (classFrom (k + 1) (drop (k + 1) ss) n)
-unfolding classFrom
-classFrom-turn k ss n h = rw (drop-cons ss k 0, add-one)
+-- ---- firstFit: a slab is passed, or is the one
+pub firstFit-turn : (n k : ℕ) (ss : List ℕ) → k < length ss
+    → k + firstFit n (drop k ss) ≡ cond (leb (n + fieldWidth (getD ss k 0) + checkWidth) (getD ss k 0)) k (k + 1 + firstFit n (drop (k + 1) ss))
+unfolding firstFit
+firstFit-turn n k ss h =
+    rw (drop-cons ss k 0, add-one) (by (leb (n + fieldWidth (getD ss k 0) + checkWidth) (getD ss k 0)) (firstFit n (drop (suc k) ss)))
+  where
+    by : (t : Bool) (f : ℕ) → k + cond t 0 (suc f) ≡ cond t k (suc k + f)
+    by true f = omega arith
+    by false f = omega arith
 
-pub classFrom-passed : (k : ℕ) (ss : List ℕ) (n : ℕ) → length ss ≤ k → classFrom k (drop k ss) n ≡ Refused (refusal tooLarge 0)
-unfolding classFrom
-classFrom-passed k ss n h = rw (drop-of-length-le ss h)
+pub firstFit-passed : (n k : ℕ) (ss : List ℕ) → length ss ≡ k → k + firstFit n (drop k ss) ≡ k
+unfolding firstFit
+firstFit-passed n k ss h =
+    let past : length ss ≤ k = omega arith in
+    rw (drop-of-length-le ss past) (omega arith)
+
+-- ---- classOf
+pub classOf-slab : (n k : ℕ) → slabFor n ≡ k → k < slabs → classOf n ≡ Slab k
+unfolding classOf
+classOf-slab n k e h = simp (e, lt-ltb k slabs h)
+
+pub classOf-none : (n : ℕ) → slabFor n ≡ slabs → classOf n ≡ Refused (refusal tooLarge 0)
+unfolding classOf
+classOf-none n e = simp e
 
 -- ---- sizeOf
 pub sizeOf-past : (slab : ℕ) → 78 ≤ slab → sizeOf slab ≡ 0

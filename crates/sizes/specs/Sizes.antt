@@ -2,11 +2,14 @@
 use mathlib.Core.Bool.{Bool, false, cond, _||_}
 use mathlib.Core.List.{List, [], _∷_}
 use Prim.Native.Nat.{ℕ, suc, _+_, _-_}
-use lib.Dec.{leb, eqb}
+use lib.Dec.{leb, ltb, eqb}
 use lib.ListN.{getD}
 use Rattle.refusal.specs.Refusals.{refusal, tooLarge}
 use Rattle.sizes.specs.declared.Class.{Class}
 use Rattle.sizes.specs.declared.Class.the-variants.{Slab, Refused}
+
+abbrev pub slabs : ℕ
+slabs = 78
 
 -- the constant table of source document 000
 unfoldable pub slabSizes : List ℕ
@@ -46,11 +49,15 @@ checkWidth = 4
 unfoldable pub room : ℕ → ℕ
 room s = s - (fieldWidth s + checkWidth)
 
--- the first of the slabs, which are numbered from k, that n bytes fit
-unfoldable pub classFrom : ℕ → List ℕ → ℕ → Class
-classFrom k [] n = Refused (refusal tooLarge 0)
-classFrom k (s ∷ ss) n = cond (leb (n + fieldWidth s + checkWidth) s) (Slab k) (classFrom (suc k) ss n)
+-- how many of the sizes come before the first that n bytes, their length field and their check fit
+unfoldable pub firstFit : ℕ → List ℕ → ℕ
+firstFit n [] = 0
+firstFit n (s ∷ ss) = cond (leb (n + fieldWidth s + checkWidth) s) 0 (suc (firstFit n ss))
+
+-- the slab of n bytes; the number of slabs where none takes them
+unfoldable pub slabFor : ℕ → ℕ
+slabFor n = firstFit n slabSizes
 
 -- the class of n bytes
 unfoldable pub classOf : ℕ → Class
-classOf n = classFrom 0 slabSizes n
+classOf n = cond (ltb (slabFor n) slabs) (Slab (slabFor n)) (Refused (refusal tooLarge 0))
