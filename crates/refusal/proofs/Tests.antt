@@ -1,5 +1,5 @@
 -- What tests tell, alone and joined: a rule of document 01 is a chain of tests, of which the first that holds decides. Assumes nothing.
-use mathlib.Core.Bool.{Bool, true, false, cond, _&&_, _||_}
+use mathlib.Core.Bool.{Bool, true, false, _&&_, _||_}
 use mathlib.Core.Path.{_≡_, refl, sym, _∙_}
 use mathlib.Core.Logic.{_⊎_, inl, inr}
 use Prim.Native.Nat.{ℕ, _≤_}
@@ -30,11 +30,10 @@ by-test true held failed = held refl
 by-test false held failed = failed refl
 
 -- ---- two tests with the same answer
+pub both-ways : (a b : Bool) → (a ≡ true → b ≡ true) → (b ≡ true → a ≡ true) → a ≡ b
+both-ways true b f g = sym (f refl)
+both-ways false true f g = g refl
+both-ways false false f g = refl
+
 pub leb-same : (a b c d : ℕ) → (a ≤ b → c ≤ d) → (c ≤ d → a ≤ b) → leb a b ≡ leb c d
-leb-same a b c d f g = by (leb a b) (leb c d) refl refl
-  where
-    by : (s t : Bool) → leb a b ≡ s → leb c d ≡ t → s ≡ t
-    by true true p q = refl
-    by true false p q = sym (le-leb c d (f (leb-true a b p))) ∙ q
-    by false true p q = sym p ∙ le-leb a b (g (leb-true c d q))
-    by false false p q = refl
+leb-same a b c d f g = both-ways (leb a b) (leb c d) (λ p. le-leb c d (f (leb-true a b p))) (λ p. le-leb a b (g (leb-true c d p)))

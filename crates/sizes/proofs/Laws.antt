@@ -1,16 +1,22 @@
 -- Laws of the slab sizes. Assumes nothing.
-use mathlib.Core.Bool.{Bool, true, false, cond}
+use mathlib.Core.Bool.{Bool, true, false, cond, _&&_, _||_, not}
 use mathlib.Core.List.{List, [], _∷_}
 use mathlib.Core.Path.{_≡_, refl, sym, ap, _∙_}
-use Prim.Native.Nat.{ℕ, zero, suc, _+_, _-_, _≤_, _<_}
-use native.Mathlib.Numerals.{add-one}
+use Prim.Native.Nat.{ℕ, zero, suc, _+_, _-_, _*_, _/_, _%_, _^_, _≤_, _<_}
+use native.Mathlib.Numerals.{add-one, one-add}
 use native.Mathlib.Omega.{arith}
-use lib.Dec.{leb, lit≤}
+use lib.Dec.{leb, ltb, eqb, lit≤, lit<}
 use lib.ListN.{length, getD, drop, drop-of-length-le, List·getD-eq-default}
 use lib.Seq.{drop-cons}
-use borrow.Author.Tests.{lt-ltb}
+use borrow.Author.Tests.{lt-ltb, ltb-true, ltb-false, leb-true, leb-false, eqb-true, ne-eqb}
+use mathlib.Core.Logic.{⊎-elim}
+use native.Mathlib.Nat.{eq-or-lt-of-le, le-of-suc-le-suc, lt-trans, not-le-of-lt, mul-assoc, pow-suc}
+use lib.Count.{trailingZeros, under}
+use lib.Pow.{shr-shr}
 use Rattle.refusal.specs.Refusals.{refusal, tooLarge}
-use Rattle.sizes.specs.Sizes.{slabSizes, sizeOf, slabs, fieldWidth, checkWidth, firstFit, slabFor, classOf}
+use Rattle.refusal.proofs.Tests.{clash, and-true, or-true, by-test, both-ways}
+use Rattle.sizes.specs.Sizes.{slabSizes, sizeOf, isIn, isSlabSize, slabs, fieldWidth, checkWidth, room, firstFit, slabFor, classOf}
+use Rattle.sizes.specs.OddPart.{goes}
 use Rattle.sizes.specs.declared.Class.{Class}
 use Rattle.sizes.specs.declared.Class.the-variants.{Slab, Refused}
 
@@ -30,22 +36,57 @@ pub length-slabSizes : length slabSizes ≡ 78
 unfolding slabSizes
 length-slabSizes = refl
 
--- ---- firstFit: a slab is passed, or is the one
-pub firstFit-turn : (n k : ℕ) (ss : List ℕ) → k < length ss
-    → k + firstFit n (drop k ss) ≡ cond (leb (n + fieldWidth (getD ss k 0) + checkWidth) (getD ss k 0)) k (k + 1 + firstFit n (drop (k + 1) ss))
-unfolding firstFit
-firstFit-turn n k ss h =
-    rw (drop-cons ss k 0, add-one) (by (leb (n + fieldWidth (getD ss k 0) + checkWidth) (getD ss k 0)) (firstFit n (drop (suc k) ss)))
+-- ---- slabFor: what is left of the walk at slab k
+abbrev pub walk : ℕ → ℕ → ℕ
+walk n k = k + firstFit n (drop k slabSizes)
+
+-- a slab is the one, or is passed
+pub walk-turn : (n k : ℕ) → k < 78 → walk n k ≡ cond (leb (n + fieldWidth (sizeOf k) + checkWidth) (sizeOf k)) k (walk n (k + 1))
+unfolding firstFit sizeOf
+walk-turn n k h =
+    let l : k < length slabSizes = rw length-slabSizes h in
+    rw (drop-cons slabSizes k 0, add-one) (by (leb (n + fieldWidth (sizeOf k) + checkWidth) (sizeOf k)) (firstFit n (drop (suc k) slabSizes)))
   where
     by : (t : Bool) (f : ℕ) → k + cond t 0 (suc f) ≡ cond t k (suc k + f)
     by true f = omega arith
     by false f = omega arith
 
-pub firstFit-passed : (n k : ℕ) (ss : List ℕ) → length ss ≡ k → k + firstFit n (drop k ss) ≡ k
+pub walk-end : (n : ℕ) → walk n 78 ≡ 78
+unfolding firstFit slabSizes
+walk-end n = refl
+
+-- ---- the class rule: what is found takes n bytes, and no smaller slab does
+fits-found : (n : ℕ) (ss : List ℕ) → firstFit n ss < length ss → n + fieldWidth (getD ss (firstFit n ss) 0) + checkWidth ≤ getD ss (firstFit n ss) 0
 unfolding firstFit
-firstFit-passed n k ss h =
-    let past : length ss ≤ k = omega arith in
-    rw (drop-of-length-le ss past) (omega arith)
+fits-found n [] = λ h. absurd (omega arith)
+fits-found n (s ∷ ss) = by (leb (n + fieldWidth s + checkWidth) s) refl (fits-found n ss)
+  where
+    by : (t : Bool) → leb (n + fieldWidth s + checkWidth) s ≡ t
+        → (firstFit n ss < length ss → n + fieldWidth (getD ss (firstFit n ss) 0) + checkWidth ≤ getD ss (firstFit n ss) 0)
+        → cond t 0 (suc (firstFit n ss)) < suc (length ss)
+        → n + fieldWidth (getD (s ∷ ss) (cond t 0 (suc (firstFit n ss))) 0) + checkWidth ≤ getD (s ∷ ss) (cond t 0 (suc (firstFit n ss))) 0
+    by true e r h = leb-true _ _ e
+    by false e r h = r (le-of-suc-le-suc h)
+
+fits-least : (n : ℕ) (ss : List ℕ) (j : ℕ) → j < firstFit n ss → getD ss j 0 < n + fieldWidth (getD ss j 0) + checkWidth
+unfolding firstFit
+fits-least n [] j = λ h. absurd (omega arith)
+fits-least n (s ∷ ss) j = by (leb (n + fieldWidth s + checkWidth) s) refl j (fits-least n ss)
+  where
+    by : (t : Bool) → leb (n + fieldWidth s + checkWidth) s ≡ t → (j : ℕ)
+        → ((j : ℕ) → j < firstFit n ss → getD ss j 0 < n + fieldWidth (getD ss j 0) + checkWidth)
+        → j < cond t 0 (suc (firstFit n ss)) → getD (s ∷ ss) j 0 < n + fieldWidth (getD (s ∷ ss) j 0) + checkWidth
+    by true e j r h = absurd (omega arith)
+    by false e zero r h = leb-false _ _ e
+    by false e (suc j) r h = r j (le-of-suc-le-suc h)
+
+pub slabFor-takes : (n : ℕ) → slabFor n < slabs → n + fieldWidth (sizeOf (slabFor n)) + checkWidth ≤ sizeOf (slabFor n)
+unfolding slabFor sizeOf
+slabFor-takes n h = fits-found n slabSizes (rw length-slabSizes h)
+
+pub slabFor-least : (n j : ℕ) → j < slabFor n → sizeOf j < n + fieldWidth (sizeOf j) + checkWidth
+unfolding slabFor sizeOf
+slabFor-least n j h = fits-least n slabSizes j h
 
 -- ---- classOf
 pub classOf-slab : (n k : ℕ) → slabFor n ≡ k → k < slabs → classOf n ≡ Slab k
@@ -56,7 +97,133 @@ pub classOf-none : (n : ℕ) → slabFor n ≡ slabs → classOf n ≡ Refused (
 unfolding classOf
 classOf-none n e = simp e
 
+-- ---- a test that holds at every number below n, or at every entry of a list
+abbrev pub allBelow : (ℕ → Bool) → ℕ → Bool
+allBelow p zero = true
+allBelow p (suc n) = p n && allBelow p n
+
+pub allBelow-at : (p : ℕ → Bool) (n k : ℕ) → allBelow p n ≡ true → k < n → p k ≡ true
+allBelow-at p zero k e h = absurd (omega arith)
+allBelow-at p (suc n) k e h =
+    let b = and-true (p n) (allBelow p n) e in
+    ⊎-elim (λ (q : k ≡ n). rw q (b .0)) (λ (q : k < n). allBelow-at p n k (b .1) q) (eq-or-lt-of-le (le-of-suc-le-suc h))
+
+abbrev pub allIn : (ℕ → Bool) → List ℕ → Bool
+allIn p [] = true
+allIn p (t ∷ ts) = p t && allIn p ts
+
+pub allIn-at : (p : ℕ → Bool) (l : List ℕ) (s : ℕ) → allIn p l ≡ true → isIn s l ≡ true → p s ≡ true
+allIn-at p [] s e h = clash (sym h)
+allIn-at p (t ∷ ts) s e h =
+    let b = and-true (p t) (allIn p ts) e in
+    ⊎-elim (λ (q : eqb s t ≡ true). rw (eqb-true s t q) (b .0)) (λ (q : isIn s ts ≡ true). allIn-at p ts s (b .1) q) (or-true (eqb s t) (isIn s ts) h)
+
 -- ---- sizeOf
 pub sizeOf-past : (slab : ℕ) → 78 ≤ slab → sizeOf slab ≡ 0
 unfolding sizeOf slabSizes
 sizeOf-past slab h = List·getD-eq-default slabSizes 0 h
+
+-- the sizes worked out: four to each doubling up to 65,536, then two, and one more at 43
+abbrev pub quarter : ℕ → ℕ
+quarter k = (4 + k % 4) * 2 ^ (4 + k / 4) % 2 ^ 64
+
+abbrev pub half : ℕ → ℕ
+half k = (3 + k % 2) * 2 ^ (15 + k / 2) % 2 ^ 64
+
+abbrev worked : ℕ → ℕ
+worked k = cond (ltb k 41) (quarter k) (cond (eqb k 43) 163840 (cond (ltb k 43) (half (k - 41)) (half (k - 42))))
+
+pub sizeOf-worked : (k : ℕ) → k < 78 → worked k ≡ sizeOf k
+unfolding sizeOf slabSizes
+sizeOf-worked k h = eqb-true _ _ (allBelow-at (λ k. eqb (worked k) (sizeOf k)) 78 k refl h)
+
+step : (k : ℕ) → k < 77 → sizeOf k < sizeOf (suc k)
+unfolding sizeOf slabSizes
+step k h = ltb-true _ _ (allBelow-at (λ k. ltb (sizeOf k) (sizeOf (suc k))) 77 k refl h)
+
+-- each slab is larger than the ones before
+pub sizeOf-ascends : (j k : ℕ) → j < k → k < 78 → sizeOf j < sizeOf k
+sizeOf-ascends j zero h l = absurd (omega arith)
+sizeOf-ascends j (suc k) h l =
+    ⊎-elim (λ (q : j ≡ k). rw q (step k (omega arith))) (λ (q : j < k). lt-trans (sizeOf-ascends j k q (omega arith)) (step k (omega arith)))
+    (eq-or-lt-of-le (le-of-suc-le-suc h))
+
+-- ---- isSlabSize: by the odd part and the power of two
+halve : (n t : ℕ) → n % 2 ≡ 0 → n / 2 / 2 ^ t * 2 ^ t ≡ n / 2 → n / 2 ^ suc t * 2 ^ suc t ≡ n
+halve n t e h =
+    let q : n / 2 ^ suc t ≡ n / 2 / 2 ^ t = ap (λ (x : ℕ). n / 2 ^ x) (sym (one-add t)) ∙ sym (shr-shr n 1 t) in
+    let a : n / 2 / 2 ^ t * (2 ^ t * 2) ≡ n / 2 / 2 ^ t * 2 ^ t * 2 = sym (mul-assoc (n / 2 / 2 ^ t) (2 ^ t) 2) in
+    rw (q, pow-suc 2 t, a, h) (omega arith)
+
+-- a number is its odd part times its power of two
+pub odd-power : (k n : ℕ) → n / 2 ^ trailingZeros k n * 2 ^ trailingZeros k n ≡ n
+unfolding trailingZeros
+odd-power zero n = omega arith
+odd-power (suc k) n = by (n % 2) refl (odd-power k (n / 2))
+  where
+    by : (d : ℕ) → n % 2 ≡ d → n / 2 / 2 ^ trailingZeros k (n / 2) * 2 ^ trailingZeros k (n / 2) ≡ n / 2
+        → n / 2 ^ under d (trailingZeros k (n / 2)) * 2 ^ under d (trailingZeros k (n / 2)) ≡ n
+    by zero e h = halve n (trailingZeros k (n / 2)) e h
+    by (suc d) e h = omega arith
+
+goes-lt : (odd power : ℕ) → goes odd power ≡ true → odd < 8
+unfolding goes
+goes-lt odd power h =
+    by-test (ltb odd 8) (ltb-true odd 8)
+    (λ l.
+    let large = ltb-false odd 8 l in
+    let n : (k : ℕ) → k < 8 → eqb odd k ≡ false = λ k b. ne-eqb odd k (λ (e : odd ≡ k). omega arith) in
+    clash (sym (simp (n 1 (lit< tt), n 3 (lit< tt), n 5 (lit< tt), n 7 (lit< tt)) at h)))
+
+-- what goes together makes a slab size
+goes-slab : (odd power : ℕ) → odd < 8 → power < 35 → goes odd power ≡ true → isSlabSize (odd * 2 ^ power) ≡ true
+unfolding isSlabSize slabSizes goes
+goes-slab odd power o p h =
+    let right : ℕ → ℕ → Bool = λ odd power. not (goes odd power) || isSlabSize (odd * 2 ^ power) in
+    let t = allBelow-at (right odd) 35 power (allBelow-at (λ odd. allBelow (right odd) 35) 8 odd refl o) p in
+    simp h at t
+
+-- the parts of a slab size go together
+slab-goes : (s : ℕ) → isSlabSize s ≡ true → goes (s / 2 ^ trailingZeros 64 s) (trailingZeros 64 s) ≡ true
+unfolding isSlabSize slabSizes goes trailingZeros
+slab-goes s h = allIn-at (λ s. goes (s / 2 ^ trailingZeros 64 s) (trailingZeros 64 s)) slabSizes s refl h
+
+slab-power : (s : ℕ) → isSlabSize s ≡ true → trailingZeros 64 s < 35
+unfolding isSlabSize slabSizes trailingZeros
+slab-power s h = ltb-true _ _ (allIn-at (λ s. ltb (trailingZeros 64 s) 35) slabSizes s refl h)
+
+pub isSlabSize-goes : (s : ℕ) → trailingZeros 64 s < 35 → isSlabSize s ≡ goes (s / 2 ^ trailingZeros 64 s) (trailingZeros 64 s)
+isSlabSize-goes s p =
+    let odd = s / 2 ^ trailingZeros 64 s in
+    both-ways (isSlabSize s) (goes odd (trailingZeros 64 s)) (slab-goes s)
+    (λ h. rw (odd-power 64 s) at (goes-slab odd (trailingZeros 64 s) (goes-lt odd (trailingZeros 64 s) h) p h))
+
+pub isSlabSize-far : (s : ℕ) → 35 ≤ trailingZeros 64 s → isSlabSize s ≡ false
+isSlabSize-far s p = by-test (isSlabSize s) (λ h. absurd (not-le-of-lt (slab-power s h) p)) (λ h. h)
+
+-- ---- frames
+-- every slab has room for a frame, and for a byte
+pub isSlabSize-least : (s : ℕ) → isSlabSize s ≡ true → 64 ≤ s
+unfolding isSlabSize slabSizes
+isSlabSize-least s h = leb-true _ _ (allIn-at (λ s. leb 64 s) slabSizes s refl h)
+
+pub isSlabSize-most : (s : ℕ) → isSlabSize s ≡ true → s ≤ 17179869184
+unfolding isSlabSize slabSizes
+isSlabSize-most s h = leb-true _ _ (allIn-at (λ s. leb s 17179869184) slabSizes s refl h)
+
+-- a slab's size is its room, its length field and its check
+pub room-frame : (s : ℕ) → isSlabSize s ≡ true → room s + fieldWidth s + checkWidth ≡ s
+unfolding room
+room-frame s h = omega (arith, isSlabSize-least s h, fieldWidth-le s)
+
+-- a length that fits the room fits the length field
+pub room-lt : (s : ℕ) → s < 2 ^ 64 → room s < 256 ^ fieldWidth s
+unfolding room fieldWidth
+room-lt s h = by (leb s 255) (leb s 65535) (leb s 4294967295) refl refl refl
+  where
+    by : (a b c : Bool) → leb s 255 ≡ a → leb s 65535 ≡ b → leb s 4294967295 ≡ c
+        → s - (cond a 1 (cond b 2 (cond c 4 8)) + checkWidth) < 256 ^ cond a 1 (cond b 2 (cond c 4 8))
+    by true b c p q r = omega (arith, leb-true)
+    by false true c p q r = omega (arith, leb-true)
+    by false false true p q r = omega (arith, leb-true)
+    by false false false p q r = omega arith

@@ -29,13 +29,13 @@ slabSizes =
 unfoldable pub sizeOf : ℕ → ℕ
 sizeOf slab = getD slabSizes slab 0
 
+abbrev pub isIn : ℕ → List ℕ → Bool
+isIn s [] = false
+isIn s (t ∷ ts) = eqb s t || isIn s ts
+
 -- whether a slot can have this length
 unfoldable pub isSlabSize : ℕ → Bool
-isSlabSize s = among slabSizes
-  where
-    among : List ℕ → Bool
-    among [] = false
-    among (t ∷ ts) = eqb s t || among ts
+isSlabSize s = isIn s slabSizes
 
 -- the bytes of the length field in a slot of size s: by the slab, not by the object
 unfoldable pub fieldWidth : ℕ → ℕ

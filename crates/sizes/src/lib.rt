@@ -5,9 +5,11 @@
 //         Class::Refused(refusal) => ..,  // 2, beyond the largest class
 //     }
 ghost use mathlib.Core.Path.{_≡_};
+ghost use mathlib.Core.Bool.{_&&_};
 ghost use Prim.Native.Nat.{_+_};
 ghost use lib.Dec.{leb};
 ghost use Rattle.sizes.specs.Sizes.{slabSizes, sizeOf, isSlabSize, fieldWidth, room, classOf};
+ghost use Rattle.sizes.specs.OddPart.{goes};
 use refusal::Refusal;
 
 pub const SLABS: usize = 78;
@@ -100,11 +102,31 @@ pub enum Class {
     Refused(Refusal),
 }
 
-// The size of a slab; 0 for a number that is no slab.
+// The constant table, whole.
+pub fn slab_sizes() -> [u64; SLABS]
+    ensures { λ r. ⌜ r ≡ slabSizes ⌝ }
+{
+    SLAB_SIZES
+}
+
+// The size of a slab; 0 for a number that is no slab. A constant array is laid on the stack wherever it is read, so
+// the entry is worked out: four sizes to each doubling up to 65,536, then two, and one more at 43.
 pub fn slab_size(slab: usize) -> u64
     ensures { λ r. ⌜ r ≡ sizeOf slab ⌝ }
 {
-    if slab < SLABS { SLAB_SIZES[slab] } else { 0 }
+    if slab < 41 {
+        return ((4 + slab % 4) << (4 + slab / 4)) as u64;
+    }
+    if slab == 43 {
+        return 163840;
+    }
+    if slab < 43 {
+        return ((3 + (slab - 41) % 2) << (15 + (slab - 41) / 2)) as u64;
+    }
+    if slab < SLABS {
+        return ((3 + (slab - 42) % 2) << (15 + (slab - 42) / 2)) as u64;
+    }
+    0
 }
 
 // The bytes of the length field in a slot of size s.
@@ -122,6 +144,50 @@ pub fn field_width(s: u64) -> u64
     }
 }
 
+// The longest object that a slot of size s takes; 0 where a frame does not fit.
+pub fn room_of(s: u64) -> u64
+    ensures { λ r. ⌜ r ≡ room s ⌝ }
+{
+    let frame = field_width(s) + CHECK_WIDTH;
+    if frame < s { s - frame } else { 0 }
+}
+
+fn within(low: u32, x: u32, high: u32) -> bool
+    ensures { λ r. ⌜ r ≡ (leb low x && leb x high) ⌝ }
+{
+    low <= x && x <= high
+}
+
+// Whether a power of two goes with an odd part.
+fn goes_with(odd: u64, power: u32) -> bool
+    ensures { λ r. ⌜ r ≡ goes odd power ⌝ }
+{
+    if odd == 1 {
+        return within(6, power, 34);
+    }
+    if odd == 3 {
+        return within(5, power, 32);
+    }
+    if odd == 5 {
+        return within(4, power, 13) || power == 15;
+    }
+    if odd == 7 {
+        return within(4, power, 13);
+    }
+    false
+}
+
+// Whether a slot can have this length: by its odd part and its power of two, without the table.
+pub fn is_slab_size(s: u64) -> bool
+    ensures { λ r. ⌜ r ≡ isSlabSize s ⌝ }
+{
+    let power = u64::trailing_zeros(s);
+    if 34 < power {
+        return false;
+    }
+    goes_with(s >> power, power)
+}
+
 // Whether a slot of size s takes n bytes with their frame. No sum that could wrap: s is asked for the frame first.
 fn takes(s: u64, n: u64) -> bool
     ensures { λ r. ⌜ r ≡ leb (n + fieldWidth s + 4) s ⌝ }
@@ -136,7 +202,7 @@ pub fn slab_for_size(n: u64) -> Class
 {
     let mut slab = 0;
     while slab < SLABS {
-        if takes(SLAB_SIZES[slab], n) {
+        if takes(slab_size(slab), n) {
             return Class::Slab(slab);
         }
         slab += 1;
