@@ -1,0 +1,156 @@
+-- Two linear maps that agree at the powers of two below 2 ^ n agree below 2 ^ n; antt computes both at each power.
+-- Assumes nothing.
+use mathlib.Core.Path.{_≡_, refl, sym, ap, ap₂, _∙_, subst}
+use mathlib.Core.Bool.{Bool, true, false}
+use Prim.Native.Nat.{ℕ, zero, suc, _+_, _*_, _/_, _%_, _^_, _<_}
+use native.Mathlib.Nat.{mod-lt, zero-mul, one-mul, add-zero, pow-suc}
+use native.Mathlib.Omega.{arith}
+use lib.Dec.{T, eqb, eqb→eq, eqb-refl}
+use lib.Arith.{lt-one}
+use lib.Pow.{pow-pos, split, shr-lt}
+use lib.Bits.{bitXor, xor-shifted, xor-block, xor-shr, xor-mod}
+use Rattle.crc32.specs.Crc32.{step, steps}
+use Rattle.crc32.specs.Fold.{up, over, fifth, one, two, four}
+use Rattle.crc32.proofs.Xor.{xor-swap}
+use Rattle.crc32.proofs.Linear.{steps-xor, step-shift}
+
+pub record Lin (f : ℕ → ℕ) : Type 0 where
+  pub law : (a b : ℕ) → f (bitXor a b) ≡ bitXor (f a) (f b)
+
+pub shifted-xor : (k a b : ℕ) → bitXor a b * 2 ^ k ≡ bitXor (a * 2 ^ k) (b * 2 ^ k)
+shifted-xor k a b = sym (simp add-zero at (xor-block k a b 0 0 (pow-pos k) (pow-pos k)))
+
+pub id : Lin (λ x. x)
+id = record { law = λ a b. refl }
+
+pub lup : (k : ℕ) {f : ℕ → ℕ} → Lin f → Lin (λ x. up k (f x))
+lup k {f} l =
+    record {
+      law = λ a b.
+          ap (up k) (l .law a b) ∙ ap (λ (x : ℕ). x % 2 ^ 64) (shifted-xor k (f a) (f b)) ∙ xor-mod (f a * 2 ^ k) (f b * 2 ^ k) 64;
+    }
+
+pub down : (k : ℕ) {f : ℕ → ℕ} → Lin f → Lin (λ x. f x / 2 ^ k)
+down k {f} l = record { law = λ a b. ap (λ (x : ℕ). x / 2 ^ k) (l .law a b) ∙ xor-shr (f a) (f b) k }
+
+pub low : (k : ℕ) {f : ℕ → ℕ} → Lin f → Lin (λ x. f x % 2 ^ k)
+low k {f} l = record { law = λ a b. ap (λ (x : ℕ). x % 2 ^ k) (l .law a b) ∙ xor-mod (f a) (f b) k }
+
+pub both : {f g : ℕ → ℕ} → Lin f → Lin g → Lin (λ x. bitXor (f x) (g x))
+both {f} {g} l m = record { law = λ a b. ap₂ bitXor (l .law a b) (m .law a b) ∙ xor-swap (f a) (f b) (g a) (g b) }
+
+pub after : {f g : ℕ → ℕ} → Lin f → Lin g → Lin (λ x. f (g x))
+after {f} {g} l m = record { law = λ a b. ap f (m .law a b) ∙ l .law (g a) (g b) }
+
+pub over-xor : (a b h k : ℕ) → bitXor (over a h) (over b k) ≡ over (bitXor a b) (bitXor h k)
+unfolding over
+over-xor a b h k = xor-swap (h * 2 ^ 64) a (k * 2 ^ 64) b ∙ ap (λ (x : ℕ). bitXor x (bitXor a b)) (sym (shifted-xor 64 h k))
+
+pub above : {f g : ℕ → ℕ} → Lin f → Lin g → Lin (λ x. over (f x) (g x))
+above {f} {g} l m = record { law = λ a b. ap₂ over (l .law a b) (m .law a b) ∙ sym (over-xor (f a) (f b) (g a) (g b)) }
+
+pub lin-steps : (n : ℕ) → Lin (steps n)
+lin-steps n = record { law = steps-xor n }
+
+-- the maps of the code
+pub lin-fifth : Lin fifth
+unfolding fifth
+lin-fifth =
+    let u = both id (lup 1 id) in
+    let v = both id (lup 2 id) in
+    both (both (both (both (lup 1 u) (lup 3 u)) (lup 7 id)) (lup 17 (both v (lup 4 v)))) (lup 26 (both u (lup 4 u)))
+
+pub lin-one : Lin one
+unfolding one
+lin-one =
+    let u = both id (lup 1 id) in
+    let t = both id (lup 6 id) in
+    both (both (both (both (both (both t (lup 16 t)) (lup 9 u)) (lup 20 u)) (lup 24 (both u (lup 3 u)))) (lup 30 u)) (lup 32 id)
+
+pub lin-two : Lin two
+unfolding two
+lin-two =
+    let u = both id (lup 2 id) in
+    let t = both id (lup 12 id) in
+    both (both (both (both (both t (lup 32 t)) (lup 18 u)) (lup 40 u)) (lup 48 (both u (lup 6 u)))) (lup 60 u)
+
+pub lin-four : Lin four
+unfolding four
+lin-four = let t = both id (lup 48 id) in both (both (both t (lup 24 t)) (lup 36 t)) (lup 40 t)
+
+-- ---- the test
+abbrev pub also : Bool → Bool → Bool
+also true b = b
+also false b = false
+
+also-left : (a b : Bool) → T (also a b) → T a
+also-left true b t = tt
+also-left false b t = t
+
+also-right : (a b : Bool) → T (also a b) → T b
+also-right true b t = t
+also-right false b t = absurd t
+
+unfoldable pub same : (ℕ → ℕ) → (ℕ → ℕ) → ℕ → Bool
+same f g zero = eqb (f 0) (g 0)
+same f g (suc n) = also (eqb (f (2 ^ n)) (g (2 ^ n))) (same f g n)
+
+same-zero : (f g : ℕ → ℕ) (n : ℕ) → T (same f g n) → f 0 ≡ g 0
+unfolding same
+same-zero f g zero t = eqb→eq (f 0) (g 0) t
+same-zero f g (suc n) t = same-zero f g n (also-right (eqb (f (2 ^ n)) (g (2 ^ n))) (same f g n) t)
+
+-- a digit of 2 ^ k
+digit : (f g : ℕ → ℕ) (k h : ℕ) → h < 2 → f 0 ≡ g 0 → f (2 ^ k) ≡ g (2 ^ k) → f (h * 2 ^ k) ≡ g (h * 2 ^ k)
+digit f g k zero l z r = subst (λ (x : ℕ). f x ≡ g x) (sym (zero-mul (2 ^ k))) z
+digit f g k (suc zero) l z r = subst (λ (x : ℕ). f x ≡ g x) (sym (one-mul (2 ^ k))) r
+digit f g k (suc (suc h)) l z r = omega arith
+
+pub agree : (f g : ℕ → ℕ) → Lin f → Lin g → (n : ℕ) → T (same f g n) → (x : ℕ) → x < 2 ^ n → f x ≡ g x
+unfolding same
+agree f g lf lg zero t x l = subst (λ (y : ℕ). f y ≡ g y) (sym (lt-one l)) (eqb→eq (f 0) (g 0) t)
+agree f g lf lg (suc n) t x l =
+    let e : f (2 ^ n) ≡ g (2 ^ n) = eqb→eq (f (2 ^ n)) (g (2 ^ n)) (also-left (eqb (f (2 ^ n)) (g (2 ^ n))) (same f g n) t) in
+    let r = also-right (eqb (f (2 ^ n)) (g (2 ^ n))) (same f g n) t in
+    let s : suc n ≡ 1 + n = omega arith in
+    let h = x / 2 ^ n * 2 ^ n in
+    subst (λ (y : ℕ). f y ≡ g y)
+    (xor-shifted (x / 2 ^ n) n (x % 2 ^ n) (mod-lt x (pow-pos n)) ∙ split x n)
+    (lf .law h (x % 2 ^ n)
+    ∙ ap₂ bitXor
+    (digit f g n (x / 2 ^ n) (shr-lt 1 n (subst (λ (m : ℕ). x < 2 ^ m) s l)) (same-zero f g n r) e)
+    (agree f g lf lg n r (x % 2 ^ n) (mod-lt x (pow-pos n)))
+    ∙ sym (lg .law h (x % 2 ^ n)))
+
+-- ---- a map that steps as its argument does needs the test of steps at one power only
+both-pass : (a b : Bool) → T a → T b → T (also a b)
+both-pass true b t u = u
+both-pass false b t u = t
+
+passes : (a b : ℕ) → a ≡ b → T (eqb a b)
+passes a b e = subst (λ (x : ℕ). T (eqb a x)) e (eqb-refl a)
+
+steps-step : (n x : ℕ) → steps n (step x) ≡ step (steps n x)
+unfolding steps
+steps-step zero x = refl
+steps-step (suc n) x = steps-step n (step x)
+
+unfoldable pub falls : (ℕ → ℕ) → ℕ → Bool
+falls h zero = true
+falls h (suc k) = also (eqb (step (h (2 ^ suc k))) (h (2 ^ k))) (falls h k)
+
+half : (k : ℕ) → step (2 ^ suc k) ≡ 2 ^ k
+half k = ap step (pow-suc 2 k) ∙ step-shift (2 ^ k)
+
+pub fall : (n m : ℕ) (h : ℕ → ℕ) (k : ℕ) → steps n 0 ≡ steps m (h 0) → T (falls h k) → steps n (2 ^ k) ≡ steps m (h (2 ^ k))
+    → T (same (steps n) (λ y. steps m (h y)) (suc k))
+unfolding same falls
+fall n m h zero z t e = both-pass (eqb (steps n 1) (steps m (h 1))) (eqb (steps n 0) (steps m (h 0))) (passes (steps n 1) (steps m (h 1)) e) (passes (steps n 0) (steps m (h 0)) z)
+fall n m h (suc k) z t e =
+    let a = step (h (2 ^ suc k)) in
+    let d : a ≡ h (2 ^ k) = eqb→eq a (h (2 ^ k)) (also-left (eqb a (h (2 ^ k))) (falls h k) t) in
+    let f : steps n (2 ^ k) ≡ steps m (h (2 ^ k)) =
+    ap (steps n) (sym (half k)) ∙ steps-step n (2 ^ suc k) ∙ ap step e ∙ sym (steps-step m (h (2 ^ suc k))) ∙ ap (steps m) d in
+    both-pass (eqb (steps n (2 ^ suc k)) (steps m (h (2 ^ suc k)))) (same (steps n) (λ y. steps m (h y)) (suc k))
+    (passes (steps n (2 ^ suc k)) (steps m (h (2 ^ suc k))) e)
+    (fall n m h k z (also-right (eqb a (h (2 ^ k))) (falls h k) t) f)

@@ -1,0 +1,82 @@
+-- The CRC's step is linear over xor, and n steps take a number that was shifted by n places back. From these two, the register after
+-- any bytes is that many steps of one number, the register xor the bytes as a little-endian word.
+-- Assumes nothing.
+use mathlib.Core.Path.{_≡_, refl, sym, ap, ap₂, _∙_}
+use mathlib.Core.List.{List, [], _∷_}
+use Prim.Native.Nat.{ℕ, zero, suc, _+_, _*_, _/_, _%_, _^_, _<_}
+use native.Mathlib.Nat.{mod-lt, zero-lt-suc, mul-mod-left, mul-div-cancel, mul-assoc, pow-suc, suc-add, zero-add}
+use native.Mathlib.Omega.{arith}
+use lib.ListN.{length, getD}
+use lib.Bits.{bitXor, differ, xor-comm, xor-shifted, xor-lt, xor-zero-r}
+use Rattle.little_endian.specs.LittleEndian.{word}
+use Rattle.crc32.specs.Crc32.{takeIn, step, steps, crcOver}
+use Rattle.crc32.proofs.Xor.{xor-half, xor-odd, xor-assoc, xor-right-comm, xor-twice}
+
+two-pos : zero < 2
+two-pos = zero-lt-suc 1
+
+takeIn-xor : (x y g h : ℕ) → x < 2 → y < 2 → takeIn (differ x y) (bitXor g h) ≡ bitXor (takeIn x g) (takeIn y h)
+takeIn-xor zero zero g h hx hy = refl
+takeIn-xor zero (suc y) g h hx hy = xor-assoc g h 0xEDB8_8320
+takeIn-xor (suc x) zero g h hx hy = xor-right-comm g h 0xEDB8_8320
+takeIn-xor (suc zero) (suc zero) g h hx hy = sym (xor-twice g h 0xEDB8_8320)
+takeIn-xor (suc zero) (suc (suc y)) g h hx hy = omega arith
+takeIn-xor (suc (suc x)) (suc y) g h hx hy = omega arith
+
+pub step-xor : (a b : ℕ) → step (bitXor a b) ≡ bitXor (step a) (step b)
+unfolding step
+step-xor a b =
+    ap₂ takeIn (xor-odd a b) (xor-half a b) ∙ takeIn-xor (a % 2) (b % 2) (a / 2) (b / 2) (mod-lt a two-pos) (mod-lt b two-pos)
+
+pub steps-xor : (n a b : ℕ) → steps n (bitXor a b) ≡ bitXor (steps n a) (steps n b)
+unfolding steps
+steps-xor zero a b = refl
+steps-xor (suc n) a b = ap (steps n) (step-xor a b) ∙ steps-xor n (step a) (step b)
+
+pub step-shift : (h : ℕ) → step (h * 2) ≡ h
+unfolding step
+step-shift h = ap₂ takeIn (mul-mod-left h 2) (mul-div-cancel h two-pos)
+
+pub steps-shift : (n h : ℕ) → steps n (h * 2 ^ n) ≡ h
+unfolding steps
+steps-shift zero h = omega arith
+steps-shift (suc n) h =
+    ap (λ (x : ℕ). steps n (step x)) (ap (λ (x : ℕ). h * x) (pow-suc 2 n) ∙ sym (mul-assoc h (2 ^ n) 2))
+    ∙ ap (steps n) (step-shift (h * 2 ^ n))
+    ∙ steps-shift n h
+
+pub steps-add : (m n c : ℕ) → steps (m + n) c ≡ steps n (steps m c)
+unfolding steps
+steps-add zero n c = ap (λ (k : ℕ). steps k c) (zero-add n)
+steps-add (suc m) n c = ap (λ (k : ℕ). steps k c) (suc-add m n) ∙ steps-add m n (step c)
+
+pub steps-zero : (c : ℕ) → steps 0 c ≡ c
+unfolding steps
+steps-zero c = refl
+
+-- each element is a byte, as a slice's rule gives it
+abbrev pub Bytes : List ℕ → Type 0
+Bytes bs = (j : ℕ) → getD bs j 0 < 2 ^ 8
+
+-- the register after the bytes
+pub over-word : (bs : List ℕ) → Bytes bs → (c : ℕ) → crcOver c bs ≡ steps (8 * length bs) (bitXor c (word bs))
+unfolding crcOver word
+over-word [] h c = sym (steps-zero (bitXor c 0) ∙ xor-zero-r c)
+over-word (b ∷ bs) h c =
+    over-word bs (λ j. h (suc j)) (steps 8 (bitXor c b))
+    ∙ ap (steps (8 * length bs))
+    (ap (bitXor (steps 8 (bitXor c b))) (sym (steps-shift 8 (word bs)))
+    ∙ sym (steps-xor 8 (bitXor c b) (word bs * 2 ^ 8))
+    ∙ ap (steps 8) (xor-assoc c b (word bs * 2 ^ 8) ∙ ap (bitXor c) (xor-comm b (word bs * 2 ^ 8) ∙ xor-shifted (word bs) 8 b (h 0))))
+    ∙ sym (steps-add 8 (8 * length bs) (bitXor c (word bs * 2 ^ 8 + b)))
+    ∙ ap (λ (n : ℕ). steps n (bitXor c (word bs * 2 ^ 8 + b))) (omega arith)
+
+-- the register fits 32 bits
+takeIn-lt : (b h : ℕ) → h < 2 ^ 32 → takeIn b h < 2 ^ 32
+takeIn-lt zero h l = l
+takeIn-lt (suc b) h l = xor-lt 32 h 0xEDB8_8320 l (omega arith)
+
+pub steps-lt : (n x : ℕ) → x < 2 ^ 32 → steps n x < 2 ^ 32
+unfolding steps step
+steps-lt zero x l = l
+steps-lt (suc n) x l = steps-lt n (step x) (takeIn-lt (x % 2) (x / 2) (omega arith))

@@ -1,0 +1,146 @@
+-- What a word that was read is put off to, and the turn that does it.
+-- Assumes nothing.
+use mathlib.Core.Path.{_≡_, refl, sym, ap, ap₂, _∙_, subst}
+use Prim.Native.Nat.{ℕ, _+_, _*_, _/_, _%_, _^_, _<_}
+use native.Mathlib.Nat.{add-assoc}
+use lib.Dec.{T}
+use lib.Bits.{bitXor, xor-lt, xor-zero-r}
+use Rattle.crc32.specs.Crc32.{step, steps}
+use Rattle.crc32.specs.Fold.{up, over, num, Turn, fifth, one, two, four}
+use Rattle.crc32.proofs.Xor.{xor-assoc}
+use Rattle.crc32.proofs.Linear.{steps-xor, steps-add, steps-shift, steps-zero}
+use Rattle.crc32.proofs.Agree.{Lin, id, lup, down, low, both, after, above, over-xor, lin-steps, lin-fifth, lin-one, lin-two, lin-four, same, agree, falls, fall}
+
+-- the register after a word
+abbrev folded : ℕ → ℕ
+folded w = one (one (two (four w)) / 2 ^ 32) / 2 ^ 32
+
+pub folds : (w : ℕ) → w < 2 ^ 64 → folded w ≡ steps 64 w
+unfolding same steps step one two four
+folds = agree folded (steps 64) (down 32 (after lin-one (down 32 (after lin-one (after lin-two lin-four))))) (lin-steps 64) 64 tt
+
+-- and after a byte
+pub byte-fold : (x : ℕ) → x < 2 ^ 32 → bitXor (x / 2 ^ 8) (one (bitXor x (up 6 x) % 2 ^ 8) / 2 ^ 8) ≡ steps 8 x
+unfolding same steps step one
+byte-fold =
+    agree (λ x. bitXor (x / 2 ^ 8) (one (bitXor x (up 6 x) % 2 ^ 8) / 2 ^ 8)) (steps 8)
+    (both (down 8 id) (down 8 (after lin-one (low 8 (both id (lup 6 id))))))
+    (lin-steps 8)
+    32
+    tt
+
+-- where x^300 puts a word
+unfoldable pub farOf : ℕ → ℕ
+farOf y = num 0 (bitXor (up 17 y) (up 55 y)) (bitXor (bitXor (y / 2 ^ 47) (y / 2 ^ 9)) (up 19 y)) (bitXor (y / 2 ^ 45) (up 44 y)) (y / 2 ^ 20)
+
+lin-zero : Lin (λ x. 0)
+lin-zero = record { law = λ a b. refl }
+
+lin-far : Lin farOf
+unfolding farOf num
+lin-far =
+    above lin-zero
+    (above (both (lup 17 id) (lup 55 id))
+    (above (both (both (down 47 id) (down 9 id)) (lup 19 id)) (above (both (down 45 id) (lup 44 id)) (down 20 id))))
+
+far-zero : steps 332 0 ≡ steps 268 (farOf 0)
+unfolding steps step farOf num over
+far-zero = refl
+
+far-top : steps 332 (2 ^ 63) ≡ steps 268 (farOf (2 ^ 63))
+unfolding steps step farOf num over
+far-top = refl
+
+far-falls : T (falls farOf 63)
+unfolding falls step farOf num over
+far-falls = tt
+
+far-word : (y : ℕ) → y < 2 ^ 64 → steps 332 y ≡ steps 268 (farOf y)
+far-word = agree (steps 332) (λ y. steps 268 (farOf y)) (lin-steps 332) (after (lin-steps 268) lin-far) 64 (fall 332 268 farOf 63 far-zero far-falls far-top)
+
+-- and x^96
+unfoldable pub nearOf : ℕ → ℕ
+nearOf y = num (fifth y) (fifth (y / 2 ^ 32) / 2 ^ 32) 0 0 0
+
+lin-near : Lin nearOf
+unfolding nearOf num
+lin-near = above lin-fifth (above (down 32 (after lin-fifth (down 32 id))) (above lin-zero (above lin-zero lin-zero)))
+
+near-zero : steps 128 0 ≡ steps 64 (nearOf 0)
+unfolding steps step nearOf num over fifth
+near-zero = refl
+
+near-top : steps 128 (2 ^ 63) ≡ steps 64 (nearOf (2 ^ 63))
+unfolding steps step nearOf num over fifth
+near-top = refl
+
+near-falls : T (falls nearOf 63)
+unfolding falls step nearOf num over fifth
+near-falls = tt
+
+near-word : (y : ℕ) → y < 2 ^ 64 → steps 128 y ≡ steps 64 (nearOf y)
+near-word = agree (steps 128) (λ y. steps 64 (nearOf y)) (lin-steps 128) (after (lin-steps 64) lin-near) 64 (fall 128 64 nearOf 63 near-zero near-falls near-top)
+
+num-xor : (a b c d e p q r s t : ℕ)
+    → bitXor (num a b c d e) (num p q r s t) ≡ num (bitXor a p) (bitXor b q) (bitXor c r) (bitXor d s) (bitXor e t)
+unfolding num
+num-xor a b c d e p q r s t =
+    over-xor a p (over b (over c (over d e))) (over q (over r (over s t)))
+    ∙ ap (over (bitXor a p))
+    (over-xor b q (over c (over d e)) (over r (over s t))
+    ∙ ap (over (bitXor b q)) (over-xor c r (over d e) (over s t) ∙ ap (over (bitXor c r)) (over-xor d s e t)))
+
+num-low : (a : ℕ) → num a 0 0 0 0 ≡ a
+unfolding num over
+num-low a = refl
+
+-- a turn with what its word is put off to
+turned : (k a b c d e w f : ℕ) → steps (64 + k) (bitXor w a) ≡ steps k f → Turn k w (num a b c d e) (bitXor (num b c d e 0) f)
+unfolding Turn num over
+turned k a b c d e w f h n q =
+    let t = over b (over c (over d e)) in
+    let y = bitXor w a in
+    ap (steps (64 + (k + n))) (over-xor w a q t)
+    ∙ steps-xor (64 + (k + n)) (bitXor q t * 2 ^ 64) y
+    ∙ ap₂ bitXor
+    (steps-add 64 (k + n) (bitXor q t * 2 ^ 64) ∙ ap (steps (k + n)) (steps-shift 64 (bitXor q t)))
+    (ap (λ (m : ℕ). steps m y) (sym (add-assoc 64 k n)) ∙ steps-add (64 + k) n y ∙ ap (steps n) h ∙ sym (steps-add k n f))
+    ∙ sym (steps-xor (k + n) (bitXor q t) f)
+    ∙ ap (steps (k + n)) (xor-assoc q t f)
+
+module _ (a b c d e w : ℕ) (l : w < 2 ^ 64) (m : a < 2 ^ 64) where
+  pub far-turn : Turn 268 w (num a b c d e)
+      (num b
+      (bitXor c (bitXor (up 17 (bitXor w a)) (up 55 (bitXor w a))))
+      (bitXor d (bitXor (bitXor (bitXor w a / 2 ^ 47) (bitXor w a / 2 ^ 9)) (up 19 (bitXor w a))))
+      (bitXor e (bitXor (bitXor w a / 2 ^ 45) (up 44 (bitXor w a))))
+      (bitXor w a / 2 ^ 20))
+  unfolding farOf
+  far-turn =
+      let y = bitXor w a in
+      let f = bitXor (up 17 y) (up 55 y) in
+      let g = bitXor (bitXor (y / 2 ^ 47) (y / 2 ^ 9)) (up 19 y) in
+      let h = bitXor (y / 2 ^ 45) (up 44 y) in
+      subst (Turn 268 w (num a b c d e))
+      (num-xor b c d e 0 0 f g h (y / 2 ^ 20) ∙ ap (λ (x : ℕ). num x (bitXor c f) (bitXor d g) (bitXor e h) (y / 2 ^ 20)) (xor-zero-r b))
+      (turned 268 a b c d e w (farOf y) (far-word y (xor-lt 64 w a l m)))
+
+  pub near-turn : Turn 64 w (num a b c d e)
+      (num (bitXor b (fifth (bitXor w a))) (bitXor c (fifth (bitXor w a / 2 ^ 32) / 2 ^ 32)) d e 0)
+  unfolding nearOf
+  near-turn =
+      let y = bitXor w a in
+      let f = fifth y in
+      let g = fifth (y / 2 ^ 32) / 2 ^ 32 in
+      subst (Turn 64 w (num a b c d e))
+      (num-xor b c d e 0 f g 0 0 0 ∙ ap₂ (λ (x z : ℕ). num (bitXor b f) (bitXor c g) x z 0) (xor-zero-r d) (xor-zero-r e))
+      (turned 64 a b c d e w (nearOf y) (near-word y (xor-lt 64 w a l m)))
+
+pub last-turn : (a b c d e w : ℕ) → Turn 0 w (num a b c d e) (num (bitXor b (steps 64 (bitXor w a))) c d e 0)
+last-turn a b c d e w =
+    let f = steps 64 (bitXor w a) in
+    subst (Turn 0 w (num a b c d e))
+    (num-xor b c d e 0 f 0 0 0 0
+    ∙ ap₂ (λ (x y : ℕ). num (bitXor b f) x y (bitXor e 0) 0) (xor-zero-r c) (xor-zero-r d)
+    ∙ ap (λ (x : ℕ). num (bitXor b f) c d x 0) (xor-zero-r e))
+    (turned 0 a b c d e w (num f 0 0 0 0) (sym (steps-zero (num f 0 0 0 0) ∙ num-low f)))

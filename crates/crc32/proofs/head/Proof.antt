@@ -1,0 +1,72 @@
+-- `crc32::head` meets its contract: the register after i bytes, over the rest, is the register over all.
+-- Assumes nothing.
+use borrow.Author.Needs.{needs}
+use mathlib.Core.Path.{_≡_, refl, sym, ap, _∙_}
+use Prim.Native.Nat.{ℕ, _+_, _-_, _^_, _≤_, _<_}
+use native.Mathlib.Omega.{arith}
+use lib.Bits.{bitXor}
+use lib.ListN.{drop}
+use Rattle.crc32.specs.Crc32.{steps, crcOver}
+use Rattle.crc32.proofs.Left.{crc-first}
+use Rattle.crc32.proofs.head.Statement.{statement}
+use Rattle.crc32.proofs.head.Tie as tie
+
+abbrev Inv-loop : tie.InvT-loop
+Inv-loop state s h c₀ i₀ c i = (i ≤ h) × ((c < 2 ^ 32) × (crcOver c (drop i s) ≡ crcOver state s))
+
+abbrev μ-loop : tie.MeasureT-loop
+μ-loop state s h c₀ i₀ c i = h - i
+
+loop-holds : tie.Need-loop-holds Inv-loop μ-loop
+loop-holds c = (omega arith, (omega arith, refl))
+
+shared-slice-read-wide : tie.Need-shared-slice-read-wide Inv-loop μ-loop
+shared-slice-read-wide c = search needs
+
+wide-requires : tie.Need-wide-requires Inv-loop μ-loop
+wide-requires c κs = search needs
+
+byte-requires : tie.Need-byte-requires Inv-loop μ-loop
+byte-requires c κs = search needs
+
+add-i : tie.Need-add-i Inv-loop μ-loop
+add-i c = search needs
+
+loop-less : tie.Need-loop-less Inv-loop μ-loop
+loop-less c = search needs
+
+loop-again : tie.Need-loop-again Inv-loop μ-loop
+loop-again c =
+    let s = c .before .before .before .before .before .before .args .s .now in
+    let i = c .before .before .before .before .loop .i in
+    let k = c .before .before .before .before .loop .c in
+    let e = c .before .before .before .before .loop .inv .1 .1 in (
+      omega arith,
+      (
+        c .byte .ensures .1,
+        ap (λ (x : ℕ). crcOver x (drop (i + 1) s)) (c .byte .ensures .0 ∙ ap (λ (b : ℕ). steps 8 (bitXor k b)) (c .before .wide .ensures .0))
+            ∙ sym (crc-first s i (omega arith) k)
+            ∙ e,
+      ),
+    )
+
+returns : tie.Need-returns Inv-loop μ-loop
+returns c =
+    let s = c .before .before .before .args .s .now in
+    let e : c .before .before .before .args .h ≡ c .before .loop .i = omega arith in
+    (omega arith, ap (λ (k : ℕ). crcOver (c .before .loop .c) (drop k s)) e ∙ c .before .loop .inv .1 .1)
+
+pub head-spec : {M : Type 1} → statement M
+head-spec =
+    tie.close
+    (tie.spec
+    Inv-loop
+    μ-loop
+    loop-holds
+    shared-slice-read-wide
+    wide-requires
+    byte-requires
+    add-i
+    loop-less
+    loop-again
+    returns)
