@@ -5,10 +5,12 @@ use Prim.Native.Nat.{ℕ, zero, suc, _+_, _-_, _*_, _/_, _%_, _^_, _≤_, _<_, m
 use native.Mathlib.Numerals.{add-one}
 use native.Mathlib.Nat.{pow-suc, pow-le-pow-right, lt-of-lt-of-le}
 use native.Mathlib.Omega.{arith}
-use lib.ListN.{length, getD, take, drop, set, replicate, length-take, length-drop, drop-of-length-le}
-use lib.Seq.{drop-cons, take-suc-set, append-snoc, take-all, getD-take, getD-drop}
+use lib.ListN.{length, getD, take, drop, set, replicate, length-take, length-drop, length-append, drop-of-length-le}
+use lib.Seq.{drop-cons, take-suc-set, append-snoc, take-all, getD-take, getD-drop, take-at, drop-at, drop-drop, take-append-seam, drop-append-seam}
 use lib.Dec.{lit<}
-use Rattle.little_endian.specs.LittleEndian.{word, bytesOf}
+use mathlib.Core.Bool.{true}
+use borrow.Author.Tests.{le-leb}
+use Rattle.little_endian.specs.LittleEndian.{word, bytesOf, isPart, getAt, putAt}
 
 -- every element is a byte
 abbrev pub Bytes : List ℕ → Type 0
@@ -118,3 +120,31 @@ eight-turn l i p h =
 pub eight-room : (l : List ℕ) (i : ℕ) → 0 < i → Bytes l → word (drop i (take 8 l)) < 256 ^ 7
 eight-room l i p h =
     word-fits 7 (drop i (take 8 l)) (drop-bytes i (take 8 l) (take-bytes 8 l h)) (simp (length-drop, length-take) (omega arith))
+
+-- ---- a part in the middle: p, then m, then q
+module _ (p m q : List ℕ) (start end : ℕ) (hp : length p ≡ start) (hm : start + length m ≡ end) where
+  middle-is : isPart start end (p ++ (m ++ q)) ≡ true
+  middle-is =
+      let l : end ≤ length (p ++ (m ++ q)) = rw (length-append p (m ++ q), length-append m q) (omega arith) in
+      simp (le-leb start end (omega arith), le-leb end (length (p ++ (m ++ q))) l)
+
+  middle-end : drop end (p ++ (m ++ q)) ≡ q
+  middle-end = rw (← hm, ← drop-drop (length m) start (p ++ (m ++ q)), drop-at p (m ++ q) start hp) (drop-append-seam m q)
+
+  pub putAt-middle : (number : ℕ) → putAt start end number (p ++ (m ++ q)) ≡ p ++ (bytesOf (length m) number ++ q)
+  unfolding putAt
+  putAt-middle number =
+      let w : end - start ≡ length m = omega arith in
+      rw (middle-is, take-at p (m ++ q) start hp, w, middle-end)
+
+  pub getAt-middle : length m ≤ 8 → getAt start end (p ++ (m ++ q)) ≡ word m
+  unfolding getAt
+  getAt-middle h =
+      let w : end - start ≡ length m = omega arith in
+      rw (middle-is, drop-at p (m ++ q) start hp, w, take-append-seam m q, take-all 8 m h)
+
+-- a number of no bytes set is zeros
+pub bytesOf-zero : (width : ℕ) → bytesOf width 0 ≡ replicate width 0
+unfolding bytesOf
+bytesOf-zero zero = refl
+bytesOf-zero (suc width) = ap (λ (bs : List ℕ). 0 ∷ bs) (bytesOf-zero width)

@@ -1,7 +1,10 @@
 -- Numbers as bytes, the lowest byte first: how document 01 writes lengths, checks and the fields of the cookie.
 -- Assumes nothing.
-use mathlib.Core.List.{List, [], _∷_}
-use Prim.Native.Nat.{ℕ, zero, suc, _+_, _*_, _/_, _%_, _^_}
+use mathlib.Core.Bool.{Bool, cond, _&&_}
+use mathlib.Core.List.{List, [], _∷_, _++_}
+use Prim.Native.Nat.{ℕ, zero, suc, _+_, _-_, _*_, _/_, _%_, _^_}
+use lib.Dec.{leb}
+use lib.ListN.{length, take, drop}
 
 -- the number that the bytes stand for
 unfoldable pub word : List ℕ → ℕ
@@ -12,3 +15,16 @@ word (b ∷ bs) = word bs * 2 ^ 8 + b
 unfoldable pub bytesOf : ℕ → ℕ → List ℕ
 bytesOf zero n = []
 bytesOf (suc width) n = n % 2 ^ 8 ∷ bytesOf width (n / 2 ^ 8)
+
+-- whether there are bytes from `start` up to `end`
+abbrev pub isPart : ℕ → ℕ → List ℕ → Bool
+isPart start end bytes = leb start end && leb end (length bytes)
+
+-- the number in the bytes from `start` up to `end`, in the first eight of them; 0 where there is no such part
+unfoldable pub getAt : ℕ → ℕ → List ℕ → ℕ
+getAt start end bytes = cond (isPart start end bytes) (word (take 8 (take (end - start) (drop start bytes)))) 0
+
+-- the bytes with a number over those from `start` up to `end`; as they were where there is no such part
+unfoldable pub putAt : ℕ → ℕ → ℕ → List ℕ → List ℕ
+putAt start end number bytes =
+    cond (isPart start end bytes) (take start bytes ++ (bytesOf (end - start) number ++ drop end bytes)) bytes

@@ -1,9 +1,12 @@
 // What a call answers where it does not grant: the number of document 01's table, and the index it speaks of.
 //
-//     return Class::Refused(Refusal { number: Refusal::TOO_LARGE, index: 0 });
+//     return Class::Refused(Refusal::of(Refusal::TOO_LARGE));
 //
 // The index counts from 0: the update's where the refusal is given per update, the row's where per row, the slab's where a
 // batch finds no free slot, and 0 elsewhere. Numbers 18 to 26 belong to later requests.
+ghost use mathlib.Core.Path.{_≡_};
+ghost use Rattle.refusal.specs.Refusals.{refusal};
+
 pub struct Refusal {
     pub number: u8,
     pub index: usize,
@@ -44,4 +47,18 @@ impl Refusal {
     pub const REPEATED_LOCATION: u8 = 16;
     // A cut is reported where the test says keep.
     pub const NOTHING_TO_CUT: u8 = 17;
+
+    // A refusal that speaks of no row.
+    pub fn of(number: u8) -> Refusal
+        ensures { λ r. ⌜ r ≡ refusal number 0 ⌝ }
+    {
+        Refusal { number, index: 0 }
+    }
+
+    // A refusal of the row, the update or the slab at an index.
+    pub fn at(number: u8, index: usize) -> Refusal
+        ensures { λ r. ⌜ r ≡ refusal number index ⌝ }
+    {
+        Refusal { number, index }
+    }
 }

@@ -1,0 +1,170 @@
+-- Laws of frames, over every slab size, and so over every width of the length field. Assumes nothing.
+use mathlib.Core.Bool.{Bool, true, false, not, cond}
+use mathlib.Core.Path.{_≡_, refl, sym, ap, _∙_}
+use mathlib.Core.List.{List, [], _∷_, _++_, append-assoc}
+use Prim.Native.Nat.{ℕ, _+_, _-_, _^_, _≤_, _<_}
+use native.Mathlib.Nat.{lt-of-le-of-lt}
+use native.Mathlib.Omega.{arith}
+use lib.Dec.{ltb}
+use lib.ListN.{length, take, drop, replicate, length-append, length-take, length-drop, length-replicate}
+use lib.Seq.{take-at, drop-at, take-all, take-append-seam}
+use borrow.Author.Tests.{le-leb, le-ltb, ltb-false}
+use Rattle.refusal.specs.Refusals.{refusal, wrongShape, checkDiffers, tooLong}
+use Rattle.refusal.proofs.Tests.{clash}
+use Rattle.little_endian.specs.LittleEndian.{word, bytesOf, getAt, putAt}
+use Rattle.little_endian.proofs.Laws.{Bytes, append-bytes, zero-bytes, take-bytes, bytesOf-bytes, bytesOf-zero, length-bytesOf, word-bytesOf, putAt-middle, getAt-middle}
+use Rattle.parts.proofs.Parts.{length-part, drop-part}
+use Rattle.sizes.specs.Sizes.{isSlabSize, fieldWidth, checkWidth, room}
+use Rattle.sizes.proofs.Laws.{fieldWidth-le, isSlabSize-most, room-frame, room-lt}
+use Rattle.seal.specs.Seal.{checkOf, signed, isSigned, resigned}
+use Rattle.seal.proofs.Laws.{length-signed, signed-bytes, isSigned-signed, signed-isSigned, resigned-body}
+use Rattle.frame.specs.Frame.{body, framed, storedLength, verdictOf, part}
+use Rattle.frame.specs.declared.Verdict.{Verdict}
+use Rattle.frame.specs.declared.Verdict.the-variants as R
+
+-- ---- body: the object, the gap, the length
+abbrev gap : ℕ → List ℕ → List ℕ
+gap s object = replicate (room s - length object) 0
+
+pub length-body : (s : ℕ) (object : List ℕ) → length object ≤ room s → length (body s object) ≡ room s + fieldWidth s
+unfolding body
+length-body s object h =
+    rw (
+      length-append object (gap s object ++ bytesOf (fieldWidth s) (length object)),
+      length-append (gap s object) (bytesOf (fieldWidth s) (length object)),
+      length-replicate {A = ℕ} (room s - length object) 0,
+      length-bytesOf (fieldWidth s) (length object),
+    ) (omega arith)
+
+pub body-bytes : (s : ℕ) (object : List ℕ) → Bytes object → Bytes (body s object)
+unfolding body
+body-bytes s object h =
+    append-bytes object (gap s object ++ bytesOf (fieldWidth s) (length object)) h
+    (append-bytes (gap s object) (bytesOf (fieldWidth s) (length object)) (zero-bytes (room s - length object)) (bytesOf-bytes (fieldWidth s) (length object)))
+
+-- ---- framed
+pub length-framed : (s : ℕ) (object : List ℕ) → isSlabSize s ≡ true → length object ≤ room s → length (framed s object) ≡ s
+unfolding framed
+length-framed s object k h = length-signed (body s object) ∙ ap (λ (n : ℕ). n + checkWidth) (length-body s object h) ∙ room-frame s k
+
+-- ---- writing
+-- over a list in four: p stays, a gap m₁ is cleared, a number goes over m₂, and the last is signed
+steps : (p m₁ m₂ old : List ℕ) (start end number : ℕ) → length p + length m₁ ≡ start → start + length m₂ ≡ end → length old ≡ checkWidth
+    → resigned (putAt start end number (putAt (length p) start 0 (p ++ (m₁ ++ (m₂ ++ old))))) ≡ signed (p ++ (replicate (length m₁) 0 ++ bytesOf (length m₂) number))
+steps p m₁ m₂ old start end number h₁ h₂ h₃ =
+    let z = bytesOf (length m₁) 0 in
+    let l : length (p ++ z) ≡ start = length-append p z ∙ omega (arith, length-bytesOf (length m₁) 0) in
+    let cleared : putAt (length p) start 0 (p ++ (m₁ ++ (m₂ ++ old))) ≡ (p ++ z) ++ (m₂ ++ old) =
+    putAt-middle p m₁ (m₂ ++ old) (length p) start refl h₁ 0 ∙ sym (append-assoc p z (m₂ ++ old)) in
+    let numbered : putAt start end number ((p ++ z) ++ (m₂ ++ old)) ≡ ((p ++ z) ++ bytesOf (length m₂) number) ++ old =
+    putAt-middle (p ++ z) m₂ old start end l h₂ number ∙ sym (append-assoc (p ++ z) (bytesOf (length m₂) number) old) in
+    ap resigned (ap (putAt start end number) cleared ∙ numbered)
+    ∙ resigned-body ((p ++ z) ++ bytesOf (length m₂) number) old h₃
+    ∙ ap signed (append-assoc p z (bytesOf (length m₂) number) ∙ ap (λ (x : List ℕ). p ++ (x ++ bytesOf (length m₂) number)) (bytesOf-zero (length m₁)))
+
+pub laid : (slot object : List ℕ) → isSlabSize (length slot) ≡ true → length object ≤ room (length slot)
+    → resigned (putAt (room (length slot)) (length slot - checkWidth) (length object) (putAt (length object) (room (length slot)) 0 (object ++ drop (length object) slot)))
+    ≡ framed (length slot) object
+unfolding framed body
+laid slot object k h =
+    let s = length slot in
+    let n = length object in
+    let f = room-frame s k in
+    let end : ℕ = s - checkWidth in
+    let m₁ = take (room s - n) (drop n slot) in
+    let m₂ = take (end - room s) (drop (room s) slot) in
+    let l₁ : length m₁ ≡ room s - n = length-part slot n (room s) h (omega arith) in
+    let l₂ : length m₂ ≡ end - room s = length-part slot (room s) end (omega arith) (omega arith) in
+    let l₃ : length (drop end slot) ≡ checkWidth = length-drop end slot ∙ omega arith in
+    let w : end - room s ≡ fieldWidth s = omega arith in
+    let split : drop n slot ≡ m₁ ++ (m₂ ++ drop end slot) =
+    drop-part slot n (room s) h ∙ ap (λ (x : List ℕ). m₁ ++ x) (drop-part slot (room s) end (omega arith)) in
+    ap (λ (x : List ℕ). resigned (putAt (room s) end n (putAt n (room s) 0 (object ++ x)))) split
+    ∙ steps object m₁ m₂ (drop end slot) (room s) end n (omega arith) (omega arith) l₃
+    ∙ ap (λ (k : ℕ). signed (object ++ (replicate k 0 ++ bytesOf (length m₂) n))) l₁
+    ∙ ap (λ (k : ℕ). signed (object ++ (replicate (room s - n) 0 ++ bytesOf k n))) (l₂ ∙ w)
+
+-- ---- reading
+-- the length field is the part between the room and the check
+pub storedLength-field : (slot : List ℕ) → isSlabSize (length slot) ≡ true → getAt (room (length slot)) (length slot - checkWidth) slot ≡ storedLength slot
+unfolding getAt storedLength
+storedLength-field slot k =
+    let s = length slot in
+    let f = room-frame s k in
+    let w : s - checkWidth - room s ≡ fieldWidth s = omega arith in
+    let short : length (take (fieldWidth s) (drop (room s) slot)) ≤ 8 = rw (length-take (fieldWidth s) (drop (room s) slot)) (omega (arith, fieldWidth-le s)) in
+    rw (le-leb (room s) (s - checkWidth) (omega arith), le-leb (s - checkWidth) s (omega arith), w, take-all 8 (take (fieldWidth s) (drop (room s) slot)) short)
+
+-- a read accepts a slot exactly if its length is one of the 78, its check agrees and its stored length fits
+pub record Accepted (slot : List ℕ) (n : ℕ) : Type 0 where
+  pub slab : isSlabSize (length slot) ≡ true
+  pub intact : isSigned slot ≡ true
+  pub stored : storedLength slot ≡ n
+  pub fits : n ≤ room (length slot)
+
+pub verdict-accepted : (slot : List ℕ) (n : ℕ) → verdictOf slot ≡ R.Object n → Accepted slot n
+unfolding verdictOf
+verdict-accepted slot n = by (isSlabSize (length slot)) (isSigned slot) (ltb (room (length slot)) (storedLength slot)) refl refl refl
+  where
+    by : (k i l : Bool) → isSlabSize (length slot) ≡ k → isSigned slot ≡ i → ltb (room (length slot)) (storedLength slot) ≡ l
+        → cond (not k) (R.Refused (refusal wrongShape 0)) (cond (not i) (R.Refused (refusal checkDiffers 0)) (cond l (R.Refused (refusal tooLong 0)) (R.Object (storedLength slot)))) ≡ R.Object n
+        → Accepted slot n
+    by false i l p q r e = let z : _≡_ {A = ℕ} 0 1 = cc in absurd (omega arith)
+    by true false l p q r e = let z : _≡_ {A = ℕ} 0 1 = cc in absurd (omega arith)
+    by true true true p q r e = let z : _≡_ {A = ℕ} 0 1 = cc in absurd (omega arith)
+    by true true false p q r e =
+        let m : storedLength slot ≡ n = cc in
+        record { slab = p; intact = q; stored = m; fits = rw m at (ltb-false (room (length slot)) (storedLength slot) r) }
+
+pub accepted-verdict : (slot : List ℕ) (n : ℕ) → Accepted slot n → verdictOf slot ≡ R.Object n
+unfolding verdictOf
+accepted-verdict slot n a = rw (a .slab, a .intact, a .stored, le-ltb (room (length slot)) n (a .fits))
+
+pub verdict-within : (slot : List ℕ) (n : ℕ) → verdictOf slot ≡ R.Object n → n ≤ length slot
+verdict-within slot n e =
+    let a = verdict-accepted slot n e in
+    omega (arith, a .fits, room-frame (length slot) (a .slab))
+
+-- the stored length of a slot in three: the room, the length field, the check
+storedLength-three : (slot p m q : List ℕ) (s : ℕ) → slot ≡ p ++ (m ++ q) → length slot ≡ s → length p ≡ room s → length m ≡ fieldWidth s → storedLength slot ≡ word m
+unfolding storedLength
+storedLength-three slot p m q s e n hp hm =
+    ap (λ (k : ℕ). word (take (fieldWidth k) (drop (room k) slot))) n
+    ∙ ap (λ (x : List ℕ). word (take (fieldWidth s) (drop (room s) x))) e
+    ∙ ap (λ (x : List ℕ). word (take (fieldWidth s) x)) (drop-at p (m ++ q) (room s) hp)
+    ∙ ap word (take-at m q (fieldWidth s) hm)
+
+framed-three : (s : ℕ) (object : List ℕ)
+    → framed s object ≡ (object ++ gap s object) ++ (bytesOf (fieldWidth s) (length object) ++ bytesOf checkWidth (checkOf (body s object)))
+unfolding framed signed body
+framed-three s object = simp append-assoc
+
+framed-two : (s : ℕ) (object : List ℕ)
+    → framed s object ≡ object ++ (gap s object ++ (bytesOf (fieldWidth s) (length object) ++ bytesOf checkWidth (checkOf (body s object))))
+framed-two s object =
+    framed-three s object ∙ append-assoc object (gap s object) (bytesOf (fieldWidth s) (length object) ++ bytesOf checkWidth (checkOf (body s object)))
+
+-- ---- what is written is read: every object that fits, in every slab
+module _ (s : ℕ) (object : List ℕ) (k : isSlabSize s ≡ true) (h : length object ≤ room s) where
+  storedLength-framed : storedLength (framed s object) ≡ length object
+  storedLength-framed =
+      let head : length (object ++ gap s object) ≡ room s =
+      length-append object (gap s object) ∙ omega (arith, length-replicate {A = ℕ} (room s - length object) 0) in
+      let lt : length object < 256 ^ fieldWidth s = lt-of-le-of-lt h (room-lt s (omega (arith, isSlabSize-most s k))) in
+      storedLength-three (framed s object) (object ++ gap s object) (bytesOf (fieldWidth s) (length object)) (bytesOf checkWidth (checkOf (body s object))) s
+      (framed-three s object) (length-framed s object k h) head (length-bytesOf (fieldWidth s) (length object))
+      ∙ word-bytesOf (fieldWidth s) (length object) lt
+
+  pub verdict-framed : Bytes object → verdictOf (framed s object) ≡ R.Object (length object)
+  unfolding framed signed
+  verdict-framed b =
+      let n = length-framed s object k h in
+      accepted-verdict (framed s object) (length object)
+      (record { slab = rw n k; intact = isSigned-signed (body s object) (body-bytes s object b); stored = storedLength-framed; fits = rw n h })
+
+  pub part-framed : Bytes object → part (verdictOf (framed s object)) (framed s object) ≡ object
+  unfolding part
+  part-framed b =
+      ap (λ (v : Verdict). part v (framed s object)) (verdict-framed b)
+      ∙ ap (take (length object)) (framed-two s object)
+      ∙ take-append-seam object (gap s object ++ (bytesOf (fieldWidth s) (length object) ++ bytesOf checkWidth (checkOf (body s object))))

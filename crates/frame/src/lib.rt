@@ -1,0 +1,97 @@
+// An object in its slot: the object, zeros, its length, and the check of all before it (document 01, "Sizes and frames").
+//
+//     match Slab::write(slot, object) {
+//         Written::Done => ..,
+//         Written::Refused(refusal) => ..,  // 1, no slot has this length; 5, the object is too long; the slot is as it was
+//     }
+//     match Slab::verdict(slot) {
+//         Verdict::Object(n) => .. &slot[..n] ..,
+//         Verdict::Refused(refusal) => ..,  // 1; 4, the check differs; 5, the stored length is too long
+//     }
+//
+// `Slab::read(slot)` hands back that part of the slot at once, and the empty part where the verdict refuses. The slot's
+// length says its slab, and with it the width of the length field: one body serves the widths 1, 2, 4 and 8.
+ghost use mathlib.Core.Bool.{true};
+ghost use mathlib.Core.Path.{_≡_};
+ghost use Prim.Native.Nat.{_≤_};
+ghost use lib.ListN.{length};
+ghost use Rattle.sizes.specs.Sizes.{isSlabSize, room};
+ghost use Rattle.frame.specs.Frame.{Writing, writing, framed, verdictOf, part};
+use refusal::Refusal;
+
+pub struct Slab {}
+
+pub enum Written {
+    Done,
+    Refused(Refusal),
+}
+
+pub enum Verdict {
+    Object(usize),
+    Refused(Refusal),
+}
+
+// Where the length field starts in a slot, and where it ends.
+fn room_of(slot: &[u8]) -> usize
+    ensures { λ r. ⌜ r ≡ room (length (now (slot .entry))) ⌝ }
+{
+    sizes::room_of(slot.len() as u64) as usize
+}
+
+// The slot is laid out anew for an object that fits it.
+fn lay(slot: &mut [u8], object: &[u8])
+    requires { ⌜ (isSlabSize (length (now slot)) ≡ true) × (length (now object) ≤ room (length (now slot))) ⌝ }
+    ensures { λ _. ⌜ now (slot .exit) ≡ framed (length (now (slot .entry))) (now (object .entry)) ⌝ }
+{
+    let start = room_of(slot);
+    let end = slot.len() - seal::CHECK_WIDTH;
+    let n = bytes::copy(object, slot);
+    little_endian::put_at(slot, n, start, 0);
+    little_endian::put_at(slot, start, end, n as u64);
+    seal::write(slot);
+}
+
+impl Slab {
+    // Writes the object into the slot.
+    pub fn write(slot: &mut [u8], object: &[u8]) -> Written
+        ensures { λ r. ⌜ _≡_ {A = Writing} (record { answer = r; slot = now (slot .exit) }) (writing (now (slot .entry)) (now (object .entry))) ⌝ }
+    {
+        if !sizes::is_slab_size(slot.len() as u64) {
+            return Written::Refused(Refusal::of(Refusal::WRONG_SHAPE));
+        }
+        if room_of(slot) < object.len() {
+            return Written::Refused(Refusal::of(Refusal::TOO_LONG));
+        }
+        lay(slot, object);
+        Written::Done
+    }
+
+    // Whether the slot holds an object, and of which length.
+    pub fn verdict(slot: &[u8]) -> Verdict
+        ensures { λ r. ⌜ r ≡ verdictOf (now (slot .entry)) ⌝ }
+    {
+        if !sizes::is_slab_size(slot.len() as u64) {
+            return Verdict::Refused(Refusal::of(Refusal::WRONG_SHAPE));
+        }
+        if !seal::agrees(slot) {
+            return Verdict::Refused(Refusal::of(Refusal::CHECK_DIFFERS));
+        }
+        let start = room_of(slot);
+        let end = slot.len() - seal::CHECK_WIDTH;
+        let n = little_endian::get_at(slot, start, end) as usize;
+        if start < n {
+            return Verdict::Refused(Refusal::of(Refusal::TOO_LONG));
+        }
+        Verdict::Object(n)
+    }
+
+    // The object in the slot: the slot's own first bytes.
+    pub fn read(slot: &[u8]) -> &[u8]
+        ensures { λ r. ⌜ now r ≡ part (verdictOf (now (slot .entry))) (now (slot .entry)) ⌝ }
+    {
+        let Verdict::Object(n) = Slab::verdict(slot) else {
+            return &slot[..0];
+        };
+        &slot[..n]
+    }
+}
