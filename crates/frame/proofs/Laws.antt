@@ -12,7 +12,7 @@ use borrow.Author.Tests.{le-leb, le-ltb, ltb-false}
 use Rattle.refusal.specs.Refusals.{refusal, wrongShape, checkDiffers, tooLong}
 use Rattle.refusal.proofs.Tests.{clash}
 use Rattle.little_endian.specs.LittleEndian.{word, bytesOf, getAt, putAt}
-use Rattle.little_endian.proofs.Laws.{Bytes, append-bytes, zero-bytes, take-bytes, bytesOf-bytes, bytesOf-zero, length-bytesOf, word-bytesOf, putAt-middle, getAt-middle}
+use Rattle.little_endian.proofs.Laws.{Bytes, append-bytes, zero-bytes, take-bytes, bytesOf-bytes, bytesOf-zero, length-bytesOf, word-bytesOf, putAt-next}
 use Rattle.parts.proofs.Parts.{length-part, drop-part}
 use Rattle.sizes.specs.Sizes.{isSlabSize, fieldWidth, checkWidth, room}
 use Rattle.sizes.proofs.Laws.{fieldWidth-le, isSlabSize-most, room-frame, room-lt}
@@ -48,20 +48,6 @@ unfolding framed
 length-framed s object k h = length-signed (body s object) ∙ ap (λ (n : ℕ). n + checkWidth) (length-body s object h) ∙ room-frame s k
 
 -- ---- writing
--- over a list in four: p stays, a gap m₁ is cleared, a number goes over m₂, and the last is signed
-steps : (p m₁ m₂ old : List ℕ) (start end number : ℕ) → length p + length m₁ ≡ start → start + length m₂ ≡ end → length old ≡ checkWidth
-    → resigned (putAt start end number (putAt (length p) start 0 (p ++ (m₁ ++ (m₂ ++ old))))) ≡ signed (p ++ (replicate (length m₁) 0 ++ bytesOf (length m₂) number))
-steps p m₁ m₂ old start end number h₁ h₂ h₃ =
-    let z = bytesOf (length m₁) 0 in
-    let l : length (p ++ z) ≡ start = length-append p z ∙ omega (arith, length-bytesOf (length m₁) 0) in
-    let cleared : putAt (length p) start 0 (p ++ (m₁ ++ (m₂ ++ old))) ≡ (p ++ z) ++ (m₂ ++ old) =
-    putAt-middle p m₁ (m₂ ++ old) (length p) start refl h₁ 0 ∙ sym (append-assoc p z (m₂ ++ old)) in
-    let numbered : putAt start end number ((p ++ z) ++ (m₂ ++ old)) ≡ ((p ++ z) ++ bytesOf (length m₂) number) ++ old =
-    putAt-middle (p ++ z) m₂ old start end l h₂ number ∙ sym (append-assoc (p ++ z) (bytesOf (length m₂) number) old) in
-    ap resigned (ap (putAt start end number) cleared ∙ numbered)
-    ∙ resigned-body ((p ++ z) ++ bytesOf (length m₂) number) old h₃
-    ∙ ap signed (append-assoc p z (bytesOf (length m₂) number) ∙ ap (λ (x : List ℕ). p ++ (x ++ bytesOf (length m₂) number)) (bytesOf-zero (length m₁)))
-
 pub laid : (slot object : List ℕ) → isSlabSize (length slot) ≡ true → length object ≤ room (length slot)
     → resigned (putAt (room (length slot)) (length slot - checkWidth) (length object) (putAt (length object) (room (length slot)) 0 (object ++ drop (length object) slot)))
     ≡ framed (length slot) object
@@ -77,12 +63,17 @@ laid slot object k h =
     let l₂ : length m₂ ≡ end - room s = length-part slot (room s) end (omega arith) (omega arith) in
     let l₃ : length (drop end slot) ≡ checkWidth = length-drop end slot ∙ omega arith in
     let w : end - room s ≡ fieldWidth s = omega arith in
+    let z = bytesOf (room s - n) 0 in
     let split : drop n slot ≡ m₁ ++ (m₂ ++ drop end slot) =
     drop-part slot n (room s) h ∙ ap (λ (x : List ℕ). m₁ ++ x) (drop-part slot (room s) end (omega arith)) in
-    ap (λ (x : List ℕ). resigned (putAt (room s) end n (putAt n (room s) 0 (object ++ x)))) split
-    ∙ steps object m₁ m₂ (drop end slot) (room s) end n (omega arith) (omega arith) l₃
-    ∙ ap (λ (k : ℕ). signed (object ++ (replicate k 0 ++ bytesOf (length m₂) n))) l₁
-    ∙ ap (λ (k : ℕ). signed (object ++ (replicate (room s - n) 0 ++ bytesOf k n))) (l₂ ∙ w)
+    let l : length (object ++ z) ≡ room s = length-append object z ∙ omega (arith, length-bytesOf (room s - n) 0) in
+    let cleared : putAt n (room s) 0 (object ++ drop n slot) ≡ (object ++ z) ++ (m₂ ++ drop end slot) =
+    ap (λ (x : List ℕ). putAt n (room s) 0 (object ++ x)) split
+    ∙ putAt-next object m₁ (m₂ ++ drop end slot) n (room s) refl (omega arith) 0 (room s - n) l₁ in
+    ap (λ (x : List ℕ). resigned (putAt (room s) end n x)) cleared
+    ∙ ap resigned (putAt-next (object ++ z) m₂ (drop end slot) (room s) end l (omega arith) n (fieldWidth s) (l₂ ∙ w))
+    ∙ resigned-body ((object ++ z) ++ bytesOf (fieldWidth s) n) (drop end slot) l₃
+    ∙ ap signed (append-assoc object z (bytesOf (fieldWidth s) n) ∙ ap (λ (x : List ℕ). object ++ (x ++ bytesOf (fieldWidth s) n)) (bytesOf-zero (room s - n)))
 
 -- ---- reading
 -- the length field is the part between the room and the check

@@ -1,6 +1,6 @@
 -- Laws of `word` and `bytesOf`: each width at once. Assumes nothing.
 use mathlib.Core.Path.{_≡_, refl, sym, ap, _∙_}
-use mathlib.Core.List.{List, [], _∷_, _++_, append-nil}
+use mathlib.Core.List.{List, [], _∷_, _++_, append-nil, append-assoc}
 use Prim.Native.Nat.{ℕ, zero, suc, _+_, _-_, _*_, _/_, _%_, _^_, _≤_, _<_, min}
 use native.Mathlib.Numerals.{add-one}
 use native.Mathlib.Nat.{pow-suc, pow-le-pow-right, lt-of-lt-of-le}
@@ -136,6 +136,11 @@ module _ (p m q : List ℕ) (start end : ℕ) (hp : length p ≡ start) (hm : st
   putAt-middle number =
       let w : end - start ≡ length m = omega arith in
       rw (middle-is, take-at p (m ++ q) start hp, w, middle-end)
+
+  -- fields written one after the other: p is done, and m is the next
+  pub putAt-next : (number width : ℕ) → length m ≡ width → putAt start end number (p ++ (m ++ q)) ≡ (p ++ bytesOf width number) ++ q
+  putAt-next number width w =
+      putAt-middle number ∙ sym (append-assoc p (bytesOf (length m) number) q) ∙ ap (λ (k : ℕ). (p ++ bytesOf k number) ++ q) w
 
   pub getAt-middle : length m ≤ 8 → getAt start end (p ++ (m ++ q)) ≡ word m
   unfolding getAt
