@@ -9,35 +9,27 @@ use borrow.Author.Needs.{needs}
 use Rattle.frame.proofs.lay.Statement.{statement}
 use Rattle.frame.proofs.lay.Tie as tie
 
--- src/lib.rt:46:9
 room-of-requires : tie.Need-room-of-requires
 room-of-requires c κs = search needs
 
--- src/lib.rt:47:15
 sub-end : tie.Need-sub-end
 sub-end c = omega (arith, isSlabSize-least _ (c .before .before .before .before .pre .0))
 
--- src/lib.rt:48:9
 copy-requires : tie.Need-copy-requires
 copy-requires c κs = omega (arith, c .before .before .before .before .before .pre .1, room-frame _ (c .before .before .before .before .before .pre .0))
 
--- src/lib.rt:49:5
 put-at-requires : tie.Need-put-at-requires
 put-at-requires c κs = search needs
 
--- src/lib.rt:50:5
 put-at-requires-2 : tie.Need-put-at-requires-2
 put-at-requires-2 c κs = search needs
 
--- src/lib.rt:51:5
 write-requires : tie.Need-write-requires
 write-requires c κs = search needs
 
--- src/lib.rt:42:1
 same-length : tie.Need-same-length
 same-length c = search needs
 
--- src/lib.rt:42:1
 returns : tie.Need-returns
 returns c = cc (laid (c .before .before .before .before .before .before .before .before .before .before .before .before .before .before .before .before .before .before .before .before .args .slot .now) (c .before .before .before .before .before .before .before .before .before .before .before .before .before .before .before .before .before .before .before .before .args .object .now) (c .before .before .before .before .before .before .before .before .before .before .before .before .before .before .before .before .before .before .before .before .pre .0) (c .before .before .before .before .before .before .before .before .before .before .before .before .before .before .before .before .before .before .before .before .pre .1), take-length (c .before .before .before .before .before .before .before .before .before .before .before .before .before .before .before .before .before .before .before .before .args .object .now))
 

@@ -14,36 +14,29 @@ Inv-loop bytes left₀ number₀ left number = (left ≤ min 8 (length bytes)) �
 abbrev μ-loop : tie.MeasureT-loop
 μ-loop bytes left₀ number₀ left number = left
 
--- src/lib.rt:31:9
 at-most-widest-requires : tie.Need-at-most-widest-requires Inv-loop μ-loop
 at-most-widest-requires c κs = search needs
 
--- src/lib.rt:33:5
 loop-holds : tie.Need-loop-holds Inv-loop μ-loop
 loop-holds c =
     let bytes = c .before .before .args .bytes .now in
     (search needs, rw (c .at-most-widest .ensures) (eight-end bytes))
 
--- src/lib.rt:34:9
 sub-left : tie.Need-sub-left Inv-loop μ-loop
 sub-left c = search needs
 
--- src/lib.rt:35:18
 mul-number : tie.Need-mul-number Inv-loop μ-loop
 mul-number c =
     let l = c .before .before .before .before .args .bytes .now in
     let room = eight-room l (c .before .loop .left) (search needs) (λ k. c .before .before .before .shared-slice-known .given k .fits) in
     record { fits = omega (arith, c .before .loop .inv .1, room) }
 
--- src/lib.rt:35:38
 shared-slice-read-wide : tie.Need-shared-slice-read-wide Inv-loop μ-loop
 shared-slice-read-wide c = search needs
 
--- src/lib.rt:35:33
 wide-requires : tie.Need-wide-requires Inv-loop μ-loop
 wide-requires c κs = search needs
 
--- src/lib.rt:35:18
 add-number : tie.Need-add-number Inv-loop μ-loop
 add-number c =
     let l = c .before .before .before .before .before .before .args .bytes .now in
@@ -52,18 +45,15 @@ add-number c =
     let room = eight-room l left (search needs) bytes in
     record { fits = omega (arith, c .before .before .before .loop .inv .1, c .wide .ensures, bytes (left - 1)) }
 
--- src/lib.rt:33:5
 loop-less : tie.Need-loop-less Inv-loop μ-loop
 loop-less c = search needs
 
--- src/lib.rt:33:5
 loop-again : tie.Need-loop-again Inv-loop μ-loop
 loop-again c =
     let l = c .before .before .before .before .before .before .args .bytes .now in
     let left = c .before .before .before .loop .left in
     (search needs, rw (c .before .before .before .loop .inv .1, c .wide .ensures) (eight-turn l left (search needs) (search needs)))
 
--- src/lib.rt:28:1
 returns : tie.Need-returns Inv-loop μ-loop
 returns c =
     let e : c .before .loop .left ≡ 0 = omega arith in

@@ -6,24 +6,19 @@ use borrow.Author.Needs.{needs}
 use Rattle.little_endian.proofs.get_at.Statement.{statement}
 use Rattle.little_endian.proofs.get_at.Tie as tie
 
--- src/lib.rt:58:13
 part-get-start : tie.Need-part-get-start
 part-get-start c = search needs
 
--- src/lib.rt:58:13
 part-get-end : tie.Need-part-get-end
 part-get-end c = search needs
 
--- src/lib.rt:58:9
 get-requires : tie.Need-get-requires
 get-requires c κs = search needs
 
--- src/lib.rt:54:1
 returns : tie.Need-returns
 unfolding getAt
 returns c = c .get .ensures ∙ simp (le-leb _ _ (c .before .before .before .if1 .taken), c .before .before .if2 .taken)
 
--- src/lib.rt:54:1
 returns-2 : tie.Need-returns-2
 unfolding getAt
 returns-2 c = ⊎-elim (λ w. simp (le-leb _ _ (w .0 .taken), w .1 .left)) (λ w. simp (lt-leb _ _ (w .left))) (c .if1 .came)

@@ -11,23 +11,18 @@ use borrow.Author.Needs.{needs}
 use Rattle.little_endian.proofs.put_at.Statement.{statement}
 use Rattle.little_endian.proofs.put_at.Tie as tie
 
--- src/lib.rt:69:13
 part-put-start : tie.Need-part-put-start
 part-put-start c = search needs
 
--- src/lib.rt:69:13
 part-put-end : tie.Need-part-put-end
 part-put-end c = search needs
 
--- src/lib.rt:69:9
 put-requires : tie.Need-put-requires
 put-requires c κs = search needs
 
--- src/lib.rt:65:1
 same-length : tie.Need-same-length
 same-length c = search needs
 
--- src/lib.rt:65:1
 returns : tie.Need-returns
 unfolding putAt
 returns c =
@@ -41,7 +36,6 @@ returns c =
     ∙ ap (λ (ys : List ℕ). take start l ++ (ys ++ drop end l)) (c .before .before .put .ensures ∙ ap (λ (k : ℕ). bytesOf k number) (length-part l start end h (leb-true _ _ e)))
     ∙ simp (le-leb _ _ h, e)
 
--- src/lib.rt:65:1
 returns-2 : tie.Need-returns-2
 unfolding putAt
 returns-2 c = ⊎-elim (λ w. simp (le-leb _ _ (w .0 .taken), w .1 .left)) (λ w. simp (lt-leb _ _ (w .left))) (c .if1 .came)

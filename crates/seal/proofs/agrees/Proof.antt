@@ -12,39 +12,30 @@ use borrow.Author.Needs.{needs}
 use Rattle.seal.proofs.agrees.Statement.{statement}
 use Rattle.seal.proofs.agrees.Tie as tie
 
--- src/lib.rt:50:9
 body-length-requires : tie.Need-body-length-requires
 body-length-requires c κs = search needs
 
--- src/lib.rt:51:16
 slice-aggregate-check : tie.Need-slice-aggregate-check
 slice-aggregate-check c = sym (length-take-le _ _ (search needs))
 
--- src/lib.rt:51:10
 check-requires : tie.Need-check-requires
 check-requires c κs = search needs
 
--- src/lib.rt:51:5
 wide-requires : tie.Need-wide-requires
 wide-requires c κs = search needs
 
--- src/lib.rt:51:54
 sub-get : tie.Need-sub-get
 sub-get c = search needs
 
--- src/lib.rt:51:54
 part-get-start : tie.Need-part-get-start
 part-get-start c = search needs
 
--- src/lib.rt:51:54
 part-get-end : tie.Need-part-get-end
 part-get-end c = search needs
 
--- src/lib.rt:51:35
 get-requires : tie.Need-get-requires
 get-requires c κs = search needs
 
--- src/lib.rt:47:1
 returns : tie.Need-returns
 unfolding isSigned
 returns c =

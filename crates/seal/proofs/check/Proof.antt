@@ -6,11 +6,9 @@ use borrow.Author.Needs.{needs}
 use Rattle.seal.proofs.check.Statement.{statement}
 use Rattle.seal.proofs.check.Tie as tie
 
--- src/lib.rt:34:5
 hash-requires : tie.Need-hash-requires
 hash-requires c κs = search needs
 
--- src/lib.rt:31:1
 returns : tie.Need-returns
 unfolding checkOf
 returns c = ap (λ (x : ℕ). bitXor x 0xAF) (c .hash .ensures)

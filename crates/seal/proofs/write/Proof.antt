@@ -11,47 +11,36 @@ use borrow.Author.Needs.{needs}
 use Rattle.seal.proofs.write.Statement.{statement}
 use Rattle.seal.proofs.write.Tie as tie
 
--- src/lib.rt:41:9
 body-length-requires : tie.Need-body-length-requires
 body-length-requires c κs = search needs
 
--- src/lib.rt:42:26
 slice-reshare-prefix-check : tie.Need-slice-reshare-prefix-check
 slice-reshare-prefix-check c = search needs
 
--- src/lib.rt:42:26
 slice-aggregate-check : tie.Need-slice-aggregate-check
 slice-aggregate-check c = sym (length-take-le _ _ (search needs))
 
--- src/lib.rt:42:20
 check-requires : tie.Need-check-requires
 check-requires c κs = search needs
 
--- src/lib.rt:42:9
 wide-requires : tie.Need-wide-requires
 wide-requires c κs = search needs
 
--- src/lib.rt:43:24
 sub-put : tie.Need-sub-put
 sub-put c = search needs
 
--- src/lib.rt:43:24
 part-put-start : tie.Need-part-put-start
 part-put-start c = search needs
 
--- src/lib.rt:43:24
 part-put-end : tie.Need-part-put-end
 part-put-end c = search needs
 
--- src/lib.rt:43:5
 put-requires : tie.Need-put-requires
 put-requires c κs = search needs
 
--- src/lib.rt:38:1
 same-length : tie.Need-same-length
 same-length c = search needs
 
--- src/lib.rt:38:1
 returns : tie.Need-returns
 unfolding resigned
 returns c =

@@ -3,22 +3,18 @@ use Rattle.sizes.specs.Sizes.{fieldWidth}
 use Rattle.sizes.proofs.field_width.Statement.{statement}
 use Rattle.sizes.proofs.field_width.Tie as tie
 
--- src/lib.rt:111:1
 returns : tie.Need-returns
 unfolding fieldWidth
 returns c = simp (le-leb _ _ (c .if1 .taken))
 
--- src/lib.rt:111:1
 returns-2 : tie.Need-returns-2
 unfolding fieldWidth
 returns-2 c = simp (lt-leb _ _ (c .before .if1 .left), le-leb _ _ (c .if2 .taken))
 
--- src/lib.rt:111:1
 returns-3 : tie.Need-returns-3
 unfolding fieldWidth
 returns-3 c = simp (lt-leb _ _ (c .before .before .if1 .left), lt-leb _ _ (c .before .if2 .left), le-leb _ _ (c .if3 .taken))
 
--- src/lib.rt:111:1
 returns-4 : tie.Need-returns-4
 unfolding fieldWidth
 returns-4 c = simp (lt-leb _ _ (c .before .before .if1 .left), lt-leb _ _ (c .before .if2 .left), lt-leb _ _ (c .if3 .left))

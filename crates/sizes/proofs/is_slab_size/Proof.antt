@@ -4,23 +4,18 @@ use borrow.Author.Needs.{needs}
 use Rattle.sizes.proofs.is_slab_size.Statement.{statement}
 use Rattle.sizes.proofs.is_slab_size.Tie as tie
 
--- src/lib.rt:186:9
 returns : tie.Need-returns
 returns c = sym (isSlabSize-far (c .before .args .s) (search needs))
 
--- src/lib.rt:188:20
 cast-goes-with : tie.Need-cast-goes-with
 cast-goes-with c = search needs
 
--- src/lib.rt:188:15
 shr-goes-with : tie.Need-shr-goes-with
 shr-goes-with c = search needs
 
--- src/lib.rt:188:5
 goes-with-requires : tie.Need-goes-with-requires
 goes-with-requires c κs = search needs
 
--- src/lib.rt:181:1
 returns-2 : tie.Need-returns-2
 returns-2 c = c .goes-with .ensures ∙ sym (isSlabSize-goes (c .before .before .args .s) (search needs))
 

@@ -13,20 +13,16 @@ Inv-loop n slab₀ slab = (slab ≤ 78) × (walk n slab ≡ slabFor n)
 abbrev μ-loop : tie.MeasureT-loop
 μ-loop n slab₀ slab = 78 - slab
 
--- src/lib.rt:204:5
 loop-holds : tie.Need-loop-holds Inv-loop μ-loop
 unfolding slabFor
 loop-holds c = (search needs, omega arith)
 
--- src/lib.rt:205:18
 slab-size-requires : tie.Need-slab-size-requires Inv-loop μ-loop
 slab-size-requires c κs = search needs
 
--- src/lib.rt:205:12
 takes-requires : tie.Need-takes-requires Inv-loop μ-loop
 takes-requires c κs = search needs
 
--- src/lib.rt:206:13
 returns : tie.Need-returns Inv-loop μ-loop
 returns c =
     let n = c .before .before .before .before .before .args .n in
@@ -35,15 +31,12 @@ returns c =
     let found : slabFor n ≡ slab = sym (c .before .before .before .before .loop .inv .1) ∙ walk-turn n slab (search needs) ∙ simp fits in
     sym (classOf-slab n slab found (search needs))
 
--- src/lib.rt:208:9
 add-slab : tie.Need-add-slab Inv-loop μ-loop
 add-slab c = search needs
 
--- src/lib.rt:204:5
 loop-less : tie.Need-loop-less Inv-loop μ-loop
 loop-less c = search needs
 
--- src/lib.rt:204:5
 loop-again : tie.Need-loop-again Inv-loop μ-loop
 loop-again c =
     let n = c .before .before .before .before .before .args .n in
@@ -51,7 +44,6 @@ loop-again c =
     let passed = rw (c .before .before .slab-size .ensures) at (sym (c .before .takes .ensures) ∙ c .if1 .left) in
     (search needs, sym (walk-turn n slab (search needs) ∙ simp passed) ∙ c .before .before .before .before .loop .inv .1)
 
--- src/lib.rt:200:1
 returns-2 : tie.Need-returns-2 Inv-loop μ-loop
 returns-2 c =
     let n = c .before .before .args .n in

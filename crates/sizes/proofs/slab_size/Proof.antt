@@ -5,69 +5,53 @@ use borrow.Author.Needs.{needs}
 use Rattle.sizes.proofs.slab_size.Statement.{statement}
 use Rattle.sizes.proofs.slab_size.Tie as tie
 
--- src/lib.rt:116:18
 add-result : tie.Need-add-result
 add-result c = search needs
 
--- src/lib.rt:116:36
 add-result-2 : tie.Need-add-result-2
 add-result-2 c = search needs
 
--- src/lib.rt:116:17
 shl-result : tie.Need-shl-result
 shl-result c = search needs
 
--- src/lib.rt:116:9
 returns : tie.Need-returns
 returns c = simp (lt-ltb _ _ (c .if1 .taken)) at (sizeOf-worked (c .before .args .slab) (search needs))
 
--- src/lib.rt:119:9
 returns-2 : tie.Need-returns-2
 returns-2 c = simp (le-ltb _ _ (c .before .if1 .left), eq-eqb _ _ (c .if2 .taken)) at (sizeOf-worked (c .before .before .args .slab) (search needs))
 
--- src/lib.rt:122:18
 add-result-3 : tie.Need-add-result-3
 add-result-3 c = search needs
 
--- src/lib.rt:122:43
 add-result-4 : tie.Need-add-result-4
 add-result-4 c = search needs
 
--- src/lib.rt:122:17
 shl-result-2 : tie.Need-shl-result-2
 shl-result-2 c = search needs
 
--- src/lib.rt:122:9
 returns-3 : tie.Need-returns-3
 returns-3 c = simp (le-ltb _ _ (c .before .before .if1 .left), ne-eqb _ _ (c .before .if2 .left), lt-ltb _ _ (c .if3 .taken)) at (sizeOf-worked (c .before .before .before .args .slab) (search needs))
 
--- src/lib.rt:125:23
 sub-result : tie.Need-sub-result
 sub-result c = search needs
 
--- src/lib.rt:125:18
 add-result-5 : tie.Need-add-result-5
 add-result-5 c = search needs
 
--- src/lib.rt:125:49
 sub-result-2 : tie.Need-sub-result-2
 sub-result-2 c = search needs
 
--- src/lib.rt:125:43
 add-result-6 : tie.Need-add-result-6
 add-result-6 c = search needs
 
--- src/lib.rt:125:17
 shl-result-3 : tie.Need-shl-result-3
 shl-result-3 c = search needs
 
--- src/lib.rt:125:9
 returns-4 : tie.Need-returns-4
 returns-4 c =
     let b = c .before .before .before in
     simp (le-ltb _ _ (b .if1 .left), ne-eqb _ _ (c .before .before .if2 .left), le-ltb _ _ (c .before .if3 .left)) at (sizeOf-worked (b .before .args .slab) (search needs))
 
--- src/lib.rt:112:1
 returns-5 : tie.Need-returns-5
 returns-5 c = sym (sizeOf-past (c .before .before .before .before .args .slab) (c .if4 .left))
 

@@ -3,7 +3,6 @@ use Rattle.sizes.specs.Sizes.{slabSizes}
 use Rattle.sizes.proofs.slab_sizes.Statement.{statement}
 use Rattle.sizes.proofs.slab_sizes.Tie as tie
 
--- src/lib.rt:104:1
 returns : tie.Need-returns
 unfolding slabSizes
 returns c = refl

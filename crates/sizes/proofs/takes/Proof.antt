@@ -9,15 +9,12 @@ use borrow.Author.Needs.{needs}
 use Rattle.sizes.proofs.takes.Statement.{statement}
 use Rattle.sizes.proofs.takes.Tie as tie
 
--- src/lib.rt:129:17
 field-width-requires : tie.Need-field-width-requires
 field-width-requires c κs = search needs
 
--- src/lib.rt:129:17
 add-frame : tie.Need-add-frame
 add-frame c = record { fits = omega (arith, c .field-width .ensures, fieldWidth-le (c .before .args .s)) }
 
--- src/lib.rt:126:1
 returns : tie.Need-returns
 returns c =
     let n = c .before .before .args .n in
@@ -26,7 +23,6 @@ returns c =
     let e = c .before .field-width .ensures in
     leb-same n (s - (width + 4)) (n + fieldWidth s + 4) s (λ h. omega arith) (λ h. omega arith)
 
--- src/lib.rt:126:1
 returns-2 : tie.Need-returns-2
 returns-2 c =
     let n = c .before .before .args .n in

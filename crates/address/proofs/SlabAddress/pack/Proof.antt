@@ -8,37 +8,30 @@ use borrow.Author.Needs.{needs}
 use Rattle.address.proofs.SlabAddress.pack.Statement.{statement}
 use Rattle.address.proofs.SlabAddress.pack.Tie as tie
 
--- src/lib.rt:68:12
 bad-slots-requires : tie.Need-bad-slots-requires
 bad-slots-requires c κs = search needs
 
--- src/lib.rt:69:13
 returns : tie.Need-returns
 unfolding packed
 returns c = simp (sym (c .before .bad-slots .ensures) ∙ c .if1 .taken)
 
--- src/lib.rt:75:13
 returns-2 : tie.Need-returns-2
 unfolding packed
 returns-2 c =
     let s = sym (c .before .before .bad-slots .ensures) ∙ c .before .if1 .left in
     ⊎-elim (λ w. simp (s, le-leb _ _ (w .taken))) (λ w. simp (s, lt-leb _ _ (w .0 .left), w .1 .taken)) (c .if2 .came)
 
--- src/lib.rt:80:27
 add-t11 : tie.Need-add-t11
 add-t11 c = search needs
 
--- src/lib.rt:80:26
 mul-t12 : tie.Need-mul-t12
 mul-t12 c = search needs
 
--- src/lib.rt:80:26
 add-t14 : tie.Need-add-t14
 add-t14 c =
     let r = slots-range _ (sym (c .before .before .before .bad-slots .ensures) ∙ c .before .before .if1 .left) in
     omega (arith, leb-false)
 
--- src/lib.rt:63:5
 returns-3 : tie.Need-returns-3
 unfolding packed
 returns-3 c =

@@ -6,28 +6,23 @@ use borrow.Author.Needs.{needs}
 use Rattle.address.proofs.SlabAddress.unpack.Statement.{statement}
 use Rattle.address.proofs.SlabAddress.unpack.Tie as tie
 
--- src/lib.rt:87:12
 bad-slots-requires : tie.Need-bad-slots-requires
 bad-slots-requires c κs = search needs
 
--- src/lib.rt:88:13
 returns : tie.Need-returns
 unfolding unpacked
 returns c = simp (sym (c .before .bad-slots .ensures) ∙ c .if1 .taken)
 
--- src/lib.rt:94:13
 returns-2 : tie.Need-returns-2
 unfolding unpacked
 returns-2 c = simp (sym (c .before .before .bad-slots .ensures) ∙ c .before .if1 .left, eq-eqb _ _ (c .if2 .taken))
 
--- src/lib.rt:99:13
 returns-3 : tie.Need-returns-3
 unfolding unpacked
 returns-3 c =
     let b = c .before .before .before in
     simp (sym (b .before .before .bad-slots .ensures) ∙ b .before .if1 .left, ne-eqb _ _ (b .if2 .left), le-leb _ _ (c .before .before .if3 .taken), c .before .if4 .taken, c .if5 .taken)
 
--- src/lib.rt:84:5
 returns-4 : tie.Need-returns-4
 unfolding unpacked
 returns-4 c =

@@ -7,32 +7,25 @@ use borrow.Author.Needs.{needs}
 use Rattle.frame.proofs.Slab.read.Statement.{statement}
 use Rattle.frame.proofs.Slab.read.Tie as tie
 
--- src/lib.rt:92:34
 verdict-requires : tie.Need-verdict-requires
 verdict-requires c κs = search needs
 
--- src/lib.rt:92:29
 enum-known-n : tie.Need-enum-known-n
 enum-known-n c = search needs
 
--- src/lib.rt:93:20
 enum-told : tie.Need-enum-told
 enum-told c = search needs
 
--- src/lib.rt:93:13
 slice-aggregate-result : tie.Need-slice-aggregate-result
 slice-aggregate-result c = search needs
 
--- src/lib.rt:93:13
 returns : tie.Need-returns
 unfolding part
 returns c = ap (λ (v : Verdict). part v (c .before .before .before .before .before .args .slot .now)) (sym (c .before .enum-told .given .1) ∙ c .before .before .before .verdict .ensures)
 
--- src/lib.rt:95:9
 slice-aggregate-result-2 : tie.Need-slice-aggregate-result-2
 slice-aggregate-result-2 c = sym (length-take-le _ _ (verdict-within _ _ (sym (c .before .before .before .before .verdict .ensures) ∙ c .before .before .n .given .1)))
 
--- src/lib.rt:89:5
 returns-2 : tie.Need-returns-2
 unfolding part
 returns-2 c = ap (λ (v : Verdict). part v (c .before .before .before .before .before .before .args .slot .now)) (sym (c .before .before .n .given .1) ∙ c .before .before .before .before .verdict .ensures)

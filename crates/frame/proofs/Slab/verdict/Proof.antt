@@ -12,50 +12,39 @@ use borrow.Author.Needs.{needs}
 use Rattle.frame.proofs.Slab.verdict.Statement.{statement}
 use Rattle.frame.proofs.Slab.verdict.Tie as tie
 
--- src/lib.rt:73:13
 is-slab-size-requires : tie.Need-is-slab-size-requires
 is-slab-size-requires c κs = search needs
 
--- src/lib.rt:74:37
 of-requires : tie.Need-of-requires
 of-requires c κs = search needs
 
--- src/lib.rt:74:13
 returns : tie.Need-returns
 unfolding verdictOf
 returns c = simp (sym (c .before .before .is-slab-size .ensures) ∙ not-true _ (c .before .if1 .taken), c .of .ensures)
 
--- src/lib.rt:76:13
 agrees-requires : tie.Need-agrees-requires
 agrees-requires c κs = search needs
 
--- src/lib.rt:77:37
 of-requires-2 : tie.Need-of-requires-2
 of-requires-2 c κs = search needs
 
--- src/lib.rt:77:13
 returns-2 : tie.Need-returns-2
 unfolding verdictOf
 returns-2 c =
     simp (sym (c .before .before .before .before .is-slab-size .ensures) ∙ not-false _ (c .before .before .before .if1 .left), sym (c .before .before .agrees .ensures) ∙ not-true _ (c .before .if2 .taken), c .of2 .ensures)
 
--- src/lib.rt:79:13
 room-of-requires : tie.Need-room-of-requires
 room-of-requires c κs = search needs
 
--- src/lib.rt:80:19
 sub-end : tie.Need-sub-end
 sub-end c = omega (arith, isSlabSize-least _ (sym (c .before .before .before .before .is-slab-size .ensures) ∙ not-false _ (c .before .before .before .if1 .left)))
 
--- src/lib.rt:81:17
 get-at-requires : tie.Need-get-at-requires
 get-at-requires c κs = search needs
 
--- src/lib.rt:83:37
 of-requires-3 : tie.Need-of-requires-3
 of-requires-3 c κs = search needs
 
--- src/lib.rt:83:13
 returns-3 : tie.Need-returns-3
 unfolding verdictOf
 returns-3 c =
@@ -65,7 +54,6 @@ returns-3 c =
     let long : ltb (room (length slot)) (storedLength slot) ≡ true = rw (← stored, ← c .before .before .before .room-of .ensures) (lt-ltb _ _ (c .before .if3 .taken)) in
     simp (slab, sym (c .before .before .before .before .before .agrees .ensures) ∙ not-false _ (c .before .before .before .before .if2 .left), long, c .of3 .ensures)
 
--- src/lib.rt:70:5
 returns-4 : tie.Need-returns-4
 unfolding verdictOf
 returns-4 c =

@@ -9,47 +9,37 @@ use borrow.Author.Needs.{needs}
 use Rattle.frame.proofs.Slab.write.Statement.{statement}
 use Rattle.frame.proofs.Slab.write.Tie as tie
 
--- src/lib.rt:59:13
 is-slab-size-requires : tie.Need-is-slab-size-requires
 is-slab-size-requires c κs = search needs
 
--- src/lib.rt:60:37
 of-requires : tie.Need-of-requires
 of-requires c κs = search needs
 
--- src/lib.rt:60:13
 returns : tie.Need-returns
 unfolding writing
 returns c = simp (sym (c .before .before .is-slab-size .ensures) ∙ not-true _ (c .before .if1 .taken), c .of .ensures)
 
--- src/lib.rt:62:12
 room-of-requires : tie.Need-room-of-requires
 room-of-requires c κs = search needs
 
--- src/lib.rt:63:37
 of-requires-2 : tie.Need-of-requires-2
 of-requires-2 c κs = search needs
 
--- src/lib.rt:63:13
 same-length : tie.Need-same-length
 same-length c = search needs
 
--- src/lib.rt:63:13
 returns-2 : tie.Need-returns-2
 unfolding writing
 returns-2 c =
     let long : ltb (room (length (c .before .before .before .before .before .before .before .before .args .slot .now))) (length (c .before .before .before .before .before .before .before .before .args .object .now)) ≡ true = rw (← c .before .before .room-of .ensures) (lt-ltb _ _ (c .before .if2 .taken)) in
     simp (sym (c .before .before .before .before .before .is-slab-size .ensures) ∙ not-false _ (c .before .before .before .before .if1 .left), long, c .of2 .ensures)
 
--- src/lib.rt:65:9
 lay-requires : tie.Need-lay-requires
 lay-requires c κs = (sym (c .before .before .before .before .before .is-slab-size .ensures) ∙ not-false _ (c .before .before .before .before .if1 .left), rw (← c .before .before .room-of .ensures) (c .before .if2 .left))
 
--- src/lib.rt:56:5
 same-length-2 : tie.Need-same-length-2
 same-length-2 c = search needs
 
--- src/lib.rt:56:5
 returns-3 : tie.Need-returns-3
 unfolding writing
 returns-3 c =

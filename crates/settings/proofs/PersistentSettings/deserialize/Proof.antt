@@ -6,52 +6,41 @@ use borrow.Author.Needs.{needs}
 use Rattle.settings.proofs.PersistentSettings.deserialize.Statement.{statement}
 use Rattle.settings.proofs.PersistentSettings.deserialize.Tie as tie
 
--- src/lib.rt:58:48
 of-requires : tie.Need-of-requires
 of-requires c κs = search needs
 
--- src/lib.rt:58:13
 returns : tie.Need-returns
 unfolding settingsOf
 returns c = simp (lt-ltb _ _ (c .before .if1 .taken), c .of .ensures)
 
--- src/lib.rt:60:26
 slice-aggregate-agrees : tie.Need-slice-aggregate-agrees
 slice-aggregate-agrees c = sym (length-take-le 64 (c .before .before .before .args .cookie .now) (search needs))
 
--- src/lib.rt:60:13
 agrees-requires : tie.Need-agrees-requires
 agrees-requires c κs = search needs
 
--- src/lib.rt:61:48
 of-requires-2 : tie.Need-of-requires-2
 of-requires-2 c κs = search needs
 
--- src/lib.rt:61:13
 returns-2 : tie.Need-returns-2
 unfolding settingsOf
 returns-2 c = simp (le-ltb _ _ (c .before .before .before .before .if1 .left), sym (c .before .before .agrees .ensures) ∙ not-true _ (c .before .if2 .taken), c .of2 .ensures)
 
--- src/lib.rt:63:12
 get-at-requires : tie.Need-get-at-requires
 get-at-requires c κs = search needs
 
--- src/lib.rt:64:48
 of-requires-3 : tie.Need-of-requires-3
 of-requires-3 c κs = search needs
 
--- src/lib.rt:64:13
 returns-3 : tie.Need-returns-3
 unfolding settingsOf
 returns-3 c =
     let other = rw (c .before .before .get-at .ensures) at (ne-eqb _ _ (c .before .if3 .taken)) in
     simp (le-ltb _ _ (c .before .before .before .before .before .before .if1 .left), sym (c .before .before .before .before .agrees .ensures) ∙ not-false _ (c .before .before .before .if2 .left), other, c .of3 .ensures)
 
--- src/lib.rt:67:26
 get-at-requires-2 : tie.Need-get-at-requires-2
 get-at-requires-2 c κs = search needs
 
--- src/lib.rt:54:5
 returns-4 : tie.Need-returns-4
 unfolding settingsOf
 returns-4 c =

@@ -7,36 +7,28 @@ use borrow.Author.Needs.{needs}
 use Rattle.settings.proofs.PersistentSettings.serialize.Statement.{statement}
 use Rattle.settings.proofs.PersistentSettings.serialize.Tie as tie
 
--- src/lib.rt:44:36
 of-requires : tie.Need-of-requires
 of-requires c κs = search needs
 
--- src/lib.rt:44:13
 returns : tie.Need-returns
 unfolding storing
 returns c = simp (ne-eqb _ _ (c .before .if1 .taken), c .of .ensures)
 
--- src/lib.rt:46:9
 put-at-requires : tie.Need-put-at-requires
 put-at-requires c κs = search needs
 
--- src/lib.rt:47:9
 put-at-requires-2 : tie.Need-put-at-requires-2
 put-at-requires-2 c κs = search needs
 
--- src/lib.rt:48:9
 put-at-requires-3 : tie.Need-put-at-requires-3
 put-at-requires-3 c κs = search needs
 
--- src/lib.rt:49:9
 write-requires : tie.Need-write-requires
 write-requires c κs = search needs
 
--- src/lib.rt:40:5
 same-length : tie.Need-same-length
 same-length c = search needs
 
--- src/lib.rt:40:5
 returns-2 : tie.Need-returns-2
 unfolding storing
 returns-2 c =

@@ -5,33 +5,26 @@ use borrow.Author.Needs.{needs}
 use Rattle.settings.proofs.PersistentSettings.verify.Statement.{statement}
 use Rattle.settings.proofs.PersistentSettings.verify.Tie as tie
 
--- src/lib.rt:75:15
 deserialize-requires : tie.Need-deserialize-requires
 deserialize-requires c κs = search needs
 
--- src/lib.rt:76:51
 enum-known-found : tie.Need-enum-known-found
 enum-known-found c = search needs
 
--- src/lib.rt:80:39
 of-requires : tie.Need-of-requires
 of-requires c κs = search needs
 
--- src/lib.rt:83:41
 enum-known-refusal : tie.Need-enum-known-refusal
 enum-known-refusal c = search needs
 
--- src/lib.rt:72:5
 returns : tie.Need-returns
 unfolding agreement
 returns c = simp (sym (c .before .before .before .before .deserialize .ensures) ∙ c .before .before .found .given .1, eq-eqb _ _ (c .if1 .taken))
 
--- src/lib.rt:72:5
 returns-2 : tie.Need-returns-2
 unfolding agreement
 returns-2 c = simp (sym (c .before .before .before .before .before .deserialize .ensures) ∙ c .before .before .before .found .given .1, ne-eqb _ _ (c .before .if1 .left), c .of .ensures)
 
--- src/lib.rt:72:5
 returns-3 : tie.Need-returns-3
 unfolding agreement
 returns-3 c = simp (sym (c .before .before .before .deserialize .ensures) ∙ c .before .refusal .given .1)
