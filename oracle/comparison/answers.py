@@ -1,0 +1,670 @@
+"""The fixed list of answers, `oracle/answers/`, written from the Rust's own and checked against them.
+
+    python3 -m comparison.answers write     makes the files anew
+    python3 -m comparison.answers check     makes them in memory and compares
+
+The chances are seeded, so both give the same lines. oracle/answers/README.md has the grammar.
+"""
+
+import os
+import random
+import sys
+
+import model
+from model import DONE, HELD, KEEP, SLABS, SLAB_SIZES, Store, refused
+
+from comparison import any_tables, cutoffs, leaves, spoken
+from comparison.beside import HERE, ask
+from comparison.histories import OTHER_CLASS_IN_RUST, RATIOS, T_OF_THE_RUST, asserts_in_rust, some_lengths
+
+DIRECTORY = os.path.join(HERE, "..", "answers")
+LARGEST_SLOT_LISTED = 98_304
+
+
+class Lists:
+    """Lines of one file. A granted call is asked of the Rust too, and its answer is the one written."""
+
+    def __init__(self, mode, title):
+        self.mode = mode
+        self.head = [f"# {title}", "# Made by: python3 -m comparison.answers write (in oracle/). Grammar: README.md."]
+        self.lines = []
+        self.asked, self.expected = [], []
+
+    def ask(self, line, expected):
+        """A line for the Rust alone, and what it has to answer for the lines beside it to be the Rust's."""
+        self.asked.append(line)
+        self.expected.append(expected)
+
+    def refuse(self, call, refusal):
+        self.lines.append(f"model {call} refused {refusal.number} {refusal.index}")
+
+    def grant(self, call, answer):
+        self.lines.append(f"rust {call} {answer}")
+
+    def finish(self):
+        """The lines that the Rust answers otherwise: none, if every `rust` line is what it just said."""
+        wrong = []
+        for line, expected, rust in zip(self.asked, self.expected, ask(self.mode, self.asked)):
+            if not (rust == expected or (expected.endswith("*") and rust.startswith(expected[:-1]))):
+                wrong.append(f"{line[:200]}\n    listed {expected[:300]}\n    rust   {rust[:300]}")
+        assert all(len(line) < 1_000 for line in self.lines)
+        return wrong
+
+    def text(self):
+        return "\n".join(self.head + self.lines) + "\n"
+
+
+# ---------------------------------------------------------------------------------------------------------------------
+# Leaves
+
+
+def leaf(lists, call, rust_line, answer, listed, rust_answer):
+    """A leaf's line: the model's refusal, or the answer that the Rust gives."""
+    if refused(answer):
+        lists.refuse(call, answer)
+    else:
+        lists.ask(rust_line, rust_answer)
+        lists.grant(call, listed)
+
+
+def list_classes(lists, chance):
+    lengths = {0, 1, 2, 3, 59, 60, 250, 251, 65_528, 65_529, 4_294_967_284, 4_294_967_285}
+    lengths |= {2**64 - 1, 2**64 - 12, 2**63, 17_179_869_173}
+    for size in SLAB_SIZES:
+        lengths |= {model.room(size) - 1, model.room(size), model.room(size) + 1}
+    lengths |= {chance.randint(0, 2**chance.randint(3, 35)) for _ in range(200)}
+    for length in sorted(lengths):
+        slab = model.slab_for_size(length)
+        if length in OTHER_CLASS_IN_RUST:
+            # The Rust's class is another: document 01 names the difference.
+            lists.lines.append(f"model class {length} ok {slab}")
+        else:
+            leaf(lists, f"class {length}", f"class {length}", slab, f"ok {slab}", spoken.ok(slab))
+
+
+def list_checks(lists, chance):
+    datas = [b"", b"\0", b"a", b"abc", b"123456789", b"\0" * 32, b"\xff" * 32, bytes(range(32))]
+    datas += [chance.randbytes(count) for count in range(1, 70)]
+    for data in datas:
+        call = f"crc {leaves.as_hex(data)}"
+        leaf(lists, call, call, 0, f"ok {model.crc32(data)}", spoken.ok(model.crc32(data)))
+    counts = [255, 256, 257, 1_000, 4_095, 4_096, 4_097, 65_535, 65_536, 98_304]
+    for count in counts + [chance.randint(70, 20_000) for _ in range(60)]:
+        seed, step = chance.randint(0, 255), chance.choice((0, 1, 3, 7, 85, 128, 255))
+        call, value = f"crc ramp {count} {seed} {step}", model.crc32(spoken.ramp(count, seed, step))
+        leaf(lists, call, call, 0, f"ok {value}", spoken.ok(value))
+
+
+def list_frames(lists, chance):
+    sizes = [size for size in SLAB_SIZES if size <= LARGEST_SLOT_LISTED]
+    for size in sizes:
+        room, width = model.room(size), model.field_width(size)
+        for length in sorted({0, 1, 3, room - 1, room, room + 1, room + width + 4, chance.randint(0, room)}):
+            seed, step = chance.randint(0, 255), chance.choice((0, 1, 7, 255))
+            list_frame(lists, size, length, seed, step)
+        list_reads(lists, chance, size)
+    for size in (0, 1, 4, 5, 63, 65, 79, 100, 65_535, 65_537, 98_303):
+        list_frame(lists, size, 0, 0, 0)
+        slot = bytes(size)
+        assert refused(model.read_slot(slot))
+        lists.refuse(f"unframe {size} hex 0 - -", model.read_slot(slot))
+
+
+def list_frame(lists, size, length, seed, step):
+    slot = model.write_slot(size, spoken.ramp(length, seed, step))
+    call = f"frame {size} ramp {length} {seed} {step}"
+    tail = "" if refused(slot) else slot[model.room(size) :].hex()
+    leaf(lists, call, call, slot, f"ok {tail}", f"ok whole {tail}")
+
+
+def list_reads(lists, chance, size):
+    room, width = model.room(size), model.field_width(size)
+    for kind in ("good", "rubbish", "rubbish", "long", "long", "flip", "flip", "flip"):
+        length = chance.choice((0, room, chance.randint(0, room)))
+        seed = chance.randint(0, 255)
+        data = spoken.ramp(length if kind in ("good", "flip") else room, seed, 3)
+        if kind == "long":
+            most = 256**width - 1
+            if most <= room:
+                continue
+            length = chance.choice((room + 1, most, chance.randint(room + 1, most)))
+        field = length.to_bytes(width, "little")
+        body = data + bytes(room - len(data)) + field
+        tail = bytearray(field + model.check(body))
+        if kind == "flip":
+            tail[chance.randrange(len(tail))] ^= 1 << chance.randrange(8)
+        slot = leaves.slot_of(size, data, tail)
+        answer = model.read_slot(slot)
+        call = f"unframe {size} ramp {len(data)} {seed} 3 {tail.hex()}"
+        told = "" if refused(answer) else len(answer)
+        leaf(lists, call, call, answer, f"ok {told}", spoken.ok(told))
+
+
+def list_cookies(lists, chance):
+    for fanout in leaves.some_fanouts(chance)[:60]:
+        cookie = model.write_cookie(64, fanout)
+        leaf(lists, f"cookie 64 {fanout}", f"cookie {fanout}", cookie, f"ok {cookie.hex()}", spoken.ok(cookie.hex()))
+        for cookie in leaves.some_cookies(chance, fanout):
+            for asked in sorted({fanout, chance.choice((fanout ^ 1, fanout))}):
+                call = f"uncookie {asked} {leaves.as_hex(cookie)}"
+                leaf(lists, call, call, model.read_cookie(cookie, asked), "ok", "ok")
+    for length in (0, 1, 60, 63, 65, 128):
+        lists.refuse(f"cookie {length} 1024", model.write_cookie(length, 1024))
+
+
+def list_addresses(lists, chance):
+    places = [(65_536, 0, 0), (65_536, 77, 5), (1, 0, 0), (1, 77, 0), (65_536, 77, 65_535), (8, 3, 7)]
+    places += [(0, 0, 0), (65_537, 0, 0), (2**64 - 1, 0, 0), (0, 78, 5)]
+    places += [(65_536, slab, 0) for slab in (78, 79, 128, 254, 255)]
+    places += [(1, 0, 1), (65_536, 0, 65_536), (8, 3, 8), (8, 3, 2**56), (8, 3, 2**64 - 1), (8, 78, 8)]
+    for _ in range(120):
+        slots = chance.choice((1, 2, 8, 1_000, 65_536))
+        places.append((slots, chance.randint(0, 80), chance.randint(0, slots + slots // 8)))
+    for slots, slab, slot in places:
+        location = model.pack(slots, slab, slot)
+        leaf(lists, f"pack {slots} {slab} {slot}", f"pack {slab} {slot}", location, f"ok {location}", spoken.ok(location))
+    numbers = [0, 1, 5, 2**56 - 1, 2**56, 2**56 + 65_535, 2**56 + 65_536, 78 * 2**56, 79 * 2**56, 2**64 - 1, 255 * 2**56]
+    numbers += [chance.randint(0, 79) * 2**56 + chance.randint(0, 70_000) for _ in range(80)]
+    for location in numbers:
+        for slots in (65_536, chance.choice((0, 1, 8, 1_000, 65_537))):
+            answer = model.unpack(slots, location)
+            listed = "none" if answer is None else "ok {} {}".format(*answer)
+            leaf(lists, f"unpack {slots} {location}", f"unpack {location}", answer, listed, listed)
+
+
+def leaves_list():
+    chance = random.Random(1)
+    lists = Lists("mapper", "Class, check, frame, cookie, address: the Rust's answers, and the model's refusals.")
+    for part in (list_classes, list_checks, list_frames, list_cookies, list_addresses):
+        part(lists, chance)
+    return lists
+
+
+def cutoffs_list():
+    chance = random.Random(2)
+    lists = Lists("mapper", "fragmentation_cutoff by live, tip and the ratio's bits: the Rust's answers.")
+    queries = [(3, 8, 0x3F400000), (4, 8, 0x3F000000), (9, 10, 0x3F666667), (0, 1, 1), (0, 0, 0x3F000000)]
+    queries += list(cutoffs.all_queries(chance, 18, 80))
+    for live, tip, bits in queries:
+        start = model.cutoff(live, tip, bits)
+        call, answer = f"cutoff {live} {tip} {bits}", "nothing" if start is None else f"from {start}"
+        if tip and asserts_in_rust(live, tip, bits):
+            # The Rust asserts; document 01 says nothing is listed.
+            lists.lines.append(f"model {call} {answer}")
+        else:
+            lists.ask(call, answer)
+            lists.grant(call, answer)
+    return lists
+
+
+# ---------------------------------------------------------------------------------------------------------------------
+# Histories
+
+
+def runs(rows):
+    """Rows of numbers as (at, count, first, step of each column): the longest runs with steps of 0 or more."""
+    at = 0
+    while at < len(rows):
+        count, steps = 1, [0] * len(rows[at])
+        if at + 1 < len(rows):
+            steps = [b - a for a, b in zip(rows[at], rows[at + 1])]
+            if min(steps, default=0) >= 0:
+                while at + count < len(rows) and all(
+                    b - a == step for a, b, step in zip(rows[at + count - 1], rows[at + count], steps)
+                ):
+                    count += 1
+            else:
+                steps = [0] * len(rows[at])
+        yield at, count, rows[at], steps
+        at += count
+
+
+class Listed:
+    """One store's history: every call written down, granted ones asked of the Rust as well."""
+
+    def __init__(self, lists, chance, ids, slots, lengths, on_files):
+        self.lists, self.chance, self.lengths, self.on_files = lists, chance, lengths, on_files
+        self.store = Store(ids, slots)
+        lists.lines.append(f"store {ids} {slots}")
+        self.fresh()
+
+    def note(self, call, answer, rust_line, rust_answer, listed):
+        if refused(answer):
+            self.lists.refuse(call, answer)
+        else:
+            if rust_line is not None:
+                self.lists.ask(rust_line, rust_answer)
+            self.lists.grant(call, listed)
+        return not refused(answer)
+
+    def fresh(self):
+        self.note("fresh", self.store.fresh(), "fresh", "ok", "ok")
+
+    def new_id(self):
+        answer = self.store.new_id()
+        self.note("new_id", answer, "new_id", spoken.ok(answer), f"ok {answer}")
+
+    def rebuild(self, rows):
+        for at, count, (id, location), (id_step, location_step) in runs(rows):
+            self.lists.lines.append(f"row {at} {count} {id} {id_step} {location} {location_step}")
+        answer = self.store.rebuild(*(list(zip(*rows)) or [(), ()]))
+        self.note(f"rebuild {len(rows)}", answer, spoken.rebuild(rows), "ok", "ok")
+
+    def offer(self, rows):
+        """Updates, the call, then what the lent list holds."""
+        for kind_at, kind_rows in same_kind(rows):
+            for run_at, count, (id,), (step,) in runs([(id,) for id, _, _ in kind_rows]):
+                _, is_store, length = kind_rows[run_at]
+                kind = "store" if is_store else "free"
+                self.lists.lines.append(f"update {kind_at + run_at} {count} {id} {step} {kind} {length}")
+        answer = self.store.offer(*(list(zip(*rows)) or [(), (), ()]))
+        rust_line = None if self.on_files else f"offer {spoken.updates(rows)}"
+        said = "" if refused(answer) else spoken.ok(*answer)
+        if not self.note(f"offer {len(rows)}", answer, rust_line, said, "ok"):
+            return False
+        for run_at, count, (location,), (step,) in runs([(location,) for location in answer]):
+            self.lists.lines.append(f"slot {run_at} {count} {location} {step}")
+        return True
+
+    def commit(self):
+        self.note("commit", self.store.commit(), None if self.on_files else "commit", "ok", "ok")
+
+    def abandon(self):
+        self.note("abandon", self.store.abandon(), "abandon", "ok", "ok")
+
+    def release(self):
+        self.note("release", self.store.release(), "release", "ok", "ok")
+
+    def lookup(self, id):
+        answer = self.store.lookup(id)
+        self.note(f"lookup {id}", answer, f"lookup {id}", spoken.ok(answer), f"ok {answer}")
+
+    def defrag(self, bits):
+        store = self.store
+        tips = [(store.live(1 + slab), store.tip(1 + slab)) for slab in range(SLABS)]
+        answer = store.defrag(bits)
+        if not refused(answer) and any(tip and asserts_in_rust(live, tip, bits) for live, tip in tips):
+            return
+        said = "" if refused(answer) else spoken.listed(answer)
+        count = "" if refused(answer) else len(answer)
+        if self.note(f"defrag {bits}", answer, f"defrag {bits}", said, f"ok {count}"):
+            for at, count, (id, location), (id_step, location_step) in runs(answer):
+                self.lists.lines.append(f"listed {at} {count} {id} {id_step} {location} {location_step}")
+
+    def counters(self):
+        answer = self.store.counters()
+        sums = spoken.sums(answer)
+        self.note("counters", answer, "counters", sums, sums)
+        touched = [number for number, counted in enumerate(answer) if any(counted)]
+        for number in touched[:4]:
+            self.lists.ask(f"counter {number}", spoken.ok(*answer[number]))
+            self.lists.lines.append("counted {} {} {}".format(number, *answer[number]))
+
+    def truncation(self, slab, t):
+        """By the model: the Rust cuts inside `write_batch` only, with t 80 only."""
+        self.tell_cut("truncation", slab, t, self.store.truncation(slab, t), "model")
+
+    def report(self, slab, t):
+        self.tell_cut("report", slab, t, self.store.report_cut(slab, t), "model")
+
+    def tell_cut(self, call, slab, t, answer, source):
+        if refused(answer):
+            self.lists.refuse(f"{call} {slab} {t}", answer)
+        else:
+            said = {KEEP: "keep", DONE: "ok"}.get(answer) or f"cut {answer.length} {answer.given_back}"
+            self.lists.lines.append(f"{source} {call} {slab} {t} {said}")
+
+    def written_batch(self, rows):
+        """On files the Rust does all of this in one call. What it did shows in its files and its high marks."""
+        if not self.offer(rows):
+            return
+        self.commit()
+        store = self.store
+        cuts = given_back = 0
+        after = []
+        for slab in range(SLABS):
+            if not store.tip(1 + slab):
+                continue
+            answer = store.truncation(slab, T_OF_THE_RUST)
+            self.tell_cut("truncation", slab, T_OF_THE_RUST, answer, "rust")
+            if answer != KEEP:
+                self.tell_cut("report", slab, T_OF_THE_RUST, store.report_cut(slab, T_OF_THE_RUST), "rust")
+                after.append((f"file_length {slab}", spoken.ok(answer.length)))
+                cuts += 1
+                given_back += answer.given_back
+            after.append((f"high {slab}", spoken.ok(store.high[slab])))
+        self.lists.ask(f"batch {spoken.updates(rows)}", f"ok {cuts} {given_back} *")
+        for id, is_store, _ in rows:
+            if is_store:
+                self.lists.ask(f"lookup {id}", spoken.ok(store.locations[id]))
+        for line, answer in after:
+            self.lists.ask(line, answer)
+
+
+def same_kind(rows):
+    """(position, rows) for each stretch of Stores of one length or of Frees."""
+    at = 0
+    while at < len(rows):
+        end = at
+        while end < len(rows) and rows[end][1:] == rows[at][1:]:
+            end += 1
+        yield at, rows[at:end]
+        at = end
+
+
+BAD_RATIOS = (0, 0x80000000, 0xBF000000, 0x3F800001, 0x7F800000, 0x7FC00000, 0xFFFFFFFF)
+
+
+def random_history(lists, chance, ids, slots, on_files, calls):
+    lengths = some_lengths(chance, 4_000 if on_files else None)
+    listed = Listed(lists, chance, ids, slots, lengths, on_files)
+    store = listed.store
+    live_slabs = sorted({model.slab_for_size(length) for length in lengths})
+    for _ in range(calls):
+        kind = chance.choices(
+            ("new_id", "batch", "release", "lookup", "defrag", "counters", "restart", "truncation", "wrong"),
+            (25, 30, 12, 10, 8, 4, 3, 9, 4),
+        )[0]
+        if kind == "new_id":
+            listed.new_id()
+        elif kind == "batch":
+            rows = some_batch(chance, store, lengths)
+            if on_files:
+                listed.written_batch(rows)
+            elif listed.offer(rows):
+                while_open(listed, chance)
+                chance.choice((listed.commit, listed.commit, listed.abandon))()
+        elif kind == "release":
+            listed.release()
+        elif kind == "lookup":
+            listed.lookup(chance.randint(0, ids))
+        elif kind == "defrag":
+            listed.defrag(chance.choice(RATIOS))
+        elif kind == "counters":
+            listed.counters()
+        elif kind == "restart":
+            rows = [(id, store.locations[id]) for id in range(1, ids) if store.locations[id]]
+            if chance.random() < 0.3:
+                spoil_rows(chance, rows, ids, slots)
+            listed.rebuild(rows)
+        elif kind == "truncation" and not on_files:
+            slab = chance.choice(live_slabs + [77, 78])
+            for t in (chance.choice((1, 50, 80, 86, 86, 0, 87, 100)), 86):
+                listed.truncation(slab, t)
+                listed.report(slab, t)
+        elif kind == "wrong":
+            chance.choice((listed.commit if not on_files else listed.counters, lambda: listed.lookup(2**64 - 1)))()
+            listed.defrag(chance.choice(BAD_RATIOS))
+    listed.counters()
+    for id in range(1, min(ids, 20)):
+        listed.lookup(id)
+
+
+def some_batch(chance, store, lengths):
+    held = [id for id in range(1, store.ids) if store.id_marks[id] == HELD]
+    chance.shuffle(held)
+    rows = [(id, True, chance.choice(lengths)) for id in held[: chance.choice((0, 1, 2, 3, 5, 300))]]
+    rows = [(id, False, 0) if chance.random() < 0.3 else (id, True, length) for id, _, length in rows]
+    if chance.random() < 0.3:
+        rows.sort()
+    if chance.random() < 0.15:
+        bad = (chance.choice((0, store.ids, 1, 2**64 - 1)), chance.random() < 0.7, chance.choice((3, 17_179_869_173)))
+        rows.insert(chance.randint(0, len(rows)), bad if bad[1] else (bad[0], False, 0))
+    return rows
+
+
+def spoil_rows(chance, rows, ids, slots):
+    spoiled = [(0, 2**56), (ids, 2**56), (1, 0), (1, 2**56 + slots), (1, 79 * 2**56), (1, 5)]
+    spoiled += [(id, location) for id, location in rows[:2]]
+    spoiled += [(ids - 1, location) for _, location in rows[:2]]
+    rows.insert(chance.randint(0, len(rows)), chance.choice(spoiled))
+
+
+def while_open(listed, chance):
+    if chance.random() < 0.3:
+        listed.new_id()
+        listed.release()
+        listed.offer([])
+        listed.defrag(RATIOS[0])
+        listed.truncation(0, 80)
+        listed.report(0, 80)
+        listed.lookup(1)
+
+
+def named_cases(lists, chance):
+    """Document 01's P8 and its whole run; the limits of a batch and of the capacities."""
+    for released in (True, False):
+        listed = Listed(lists, chance, 9, 8, [3], False)
+        for _ in range(3):
+            listed.new_id()
+        listed.offer([(1, True, 3), (2, True, 3), (3, True, 3)])
+        listed.commit()
+        listed.offer([(2, False, 0)])
+        listed.commit()
+        if released:
+            listed.release()
+        listed.new_id()
+    listed = Listed(lists, chance, 9, 8, [3], False)
+    for _ in range(9):
+        listed.new_id()
+    listed.offer([(id, True, 3) for id in range(1, 9)])
+    listed.commit()
+    listed.offer([(id, False, 0) for id in (1, 2, 3, 5, 7)])
+    listed.commit()
+    listed.release()
+    listed.defrag(0x3F400000)
+    for ids, slots in ((2, 1), (300, 255), (300, 256), (300, 512)):
+        listed = Listed(lists, chance, ids, slots, [3], False)
+        for _ in range(ids):
+            listed.new_id()
+        for count in (0, 1, 255, 256, 257):
+            if listed.offer([(id, True, 3) for id in range(1, count + 1)]):
+                listed.commit()
+        listed.offer([(1, True, 3), (1, True, 3)])
+        listed.offer([(1, True, 3), (1, False, 0)])
+        listed.offer([(1, True, 17_179_869_173)])
+        listed.commit()
+        listed.abandon()
+        listed.release()
+        listed.counters()
+
+
+def stores_list():
+    chance = random.Random(3)
+    lists = Lists("mapper", "Histories of small stores on the mapper: the Rust's answers, and the model's refusals.")
+    named_cases(lists, chance)
+    for _ in range(110):
+        random_history(lists, chance, chance.randint(2, 12), chance.randint(1, 9), False, 35)
+    for _ in range(6):
+        random_history(lists, chance, chance.randint(200, 512), chance.randint(64, 512), False, 30)
+    return lists
+
+
+def files_list():
+    chance = random.Random(4)
+    lists = Lists("heap", "Histories on the whole heap with real files, truncation with t 80 after every batch.")
+    for _ in range(30):
+        random_history(lists, chance, chance.randint(4, 40), chance.randint(4, 40), True, 40)
+    growing_and_shrinking(lists, chance)
+    return lists
+
+
+def growing_and_shrinking(lists, chance):
+    """Tips above 16, so that a cut leaves a margin."""
+    for length, most in ((3, 150), (60, 41), (3_000, 30), (59, 100)):
+        listed = Listed(lists, chance, 200, 200, [length], True)
+        for _ in range(most):
+            listed.new_id()
+        listed.written_batch([(id, True, length) for id in range(1, most + 1)])
+        for keep in (130, 121, 119, 95, 79, 60, 40, 33, 30, 24, 23, 18, 17, 16, 15, 5, 2, 1):
+            gone = [id for id in range(keep + 1, most + 1) if listed.store.locations[id]]
+            if gone:
+                listed.written_batch([(id, False, 0) for id in gone])
+                listed.release()
+                listed.written_batch([])
+        listed.counters()
+
+
+def large_list():
+    chance = random.Random(5)
+    lists = Lists("mapper", "The largest capacities, 65,536 ids and 65,536 slots.")
+    listed = Listed(lists, chance, 65_536, 65_536, [3], False)
+    listed.new_id()
+    listed.rebuild([(id, model.pack(65_536, 5, id)) for id in range(1, 65_536)])
+    listed.new_id()
+    listed.offer([(7, True, 150)])
+    listed.commit()
+    listed.offer([(8, True, 150)])
+    listed.release()
+    listed.offer([(8, True, 150)])
+    listed.commit()
+    listed.lookup(7)
+    listed.lookup(8)
+    listed.counters()
+    for first in range(1, 2_049, 256):
+        listed.offer([(id, False, 0) for id in range(first, first + 256)])
+        listed.commit()
+    for bits in (0x3F800000, 0x3F700000):
+        listed.defrag(bits)
+    listed.release()
+    listed.new_id()
+    listed.new_id()
+    listed.rebuild([(65_535, model.pack(65_536, 77, 65_535))])
+    listed.new_id()
+    listed.offer([(65_535, True, 17_179_869_172), (1, True, 17_179_869_172)])
+    listed.commit()
+    for bits in (0x3F800000, 1):
+        listed.defrag(bits)
+    for t in (1, 80, 86):
+        listed.truncation(77, t)
+    listed.release()
+    for t in (1, 80, 86):
+        listed.truncation(77, t)
+        listed.report(77, t)
+    listed.counters()
+    return lists
+
+
+# ---------------------------------------------------------------------------------------------------------------------
+# Tables that no history reaches
+
+
+class ModelLists(Lists):
+    """No line is the Rust's: it has no such states."""
+
+    def ask(self, line, expected):
+        pass
+
+    def grant(self, call, answer):
+        self.lines.append(f"model {call} {answer}")
+
+    def finish(self):
+        return []
+
+
+def entries(store):
+    """(table, place): value, of all that the rules can see; marks and used words as they are read."""
+    shown = {}
+    for table in Store.TABLES:
+        for at, value in enumerate(getattr(store, table)):
+            if table == "batch" and at and (at - 1) % 256 >= (store.batch[0] - 1 if 0 < store.batch[0] <= 257 else 0):
+                continue
+            if table.endswith("marks"):
+                value = value if value in (model.FREE, model.PENDING) else HELD
+            if table == "used":
+                value = min(value, 1)
+            shown[table, at] = value
+    return shown
+
+
+def list_any_tables(lists, chance):
+    """Any tables, poked in after a fresh start; a few calls; and every entry that they changed."""
+    ids, slots = chance.randint(2, 4), chance.randint(1, 4)
+    listed = Listed(lists, chance, ids, slots, [3], False)
+    listed.store = store = any_tables.any_store(chance, ids, slots)
+    if chance.random() < 0.6:
+        soften(chance, store)
+    shown = entries(store)
+    for table in Store.TABLES:
+        for at, value in enumerate(getattr(store, table)):
+            if value and (table, at) in shown:
+                lists.lines.append(f"poke {table} {at} {value}")
+    some_id = lambda: chance.choice((0, 1, 1, 1, ids - 1, ids - 1, ids - 1, ids, 2**64 - 1))
+    slab, t = chance.choice((0, 0, 1, 77, 78)), chance.choice((1, 80, 86, 86, 0, 87))
+    rows = [(some_id(), True, 3), (some_id(), False, 0), (some_id(), True, chance.choice((60, 60, 2**35)))]
+    chance.shuffle(rows)
+    for _ in range(3):
+        ends = (listed.commit, listed.abandon)
+        calls = [
+            listed.new_id, listed.release, listed.counters, lambda: listed.lookup(some_id()),
+            lambda: listed.offer(rows[: chance.randint(1, 3)]), lambda: listed.offer(rows[:1]),
+            lambda: listed.defrag(chance.choice(RATIOS)), lambda: listed.truncation(slab, t), lambda: listed.report(slab, t),
+        ]
+        make_call = chance.choice(ends if chance.random() < (0.7 if store.batch_open() else 0.1) else calls)
+        before = entries(store)
+        make_call()
+        for (table, at), value in entries(store).items():
+            if before.get((table, at)) != value:
+                lists.lines.append(f"peek {table} {at} {value}")
+
+
+def soften(chance, store):
+    """Fewer contradictions, so that more calls are granted: some slots free, and a batch of ids whose tables agree."""
+    for slab in (0, 1):
+        for slot in range(store.slots):
+            if not any(store.locations[id] == model.pack(store.slots, slab, slot) for id in range(1, store.ids)):
+                store.slot_marks[slab * store.slots + slot] = model.FREE
+    good = [id for id in range(1, store.ids) if not store.tables_disagree(id)]
+    count = min(len(good), chance.randint(0, 3))
+    if store.batch_open():
+        store.batch[0] = count + 1
+        for at in range(count):
+            store.batch[1 + at] = chance.choice(good)
+            store.batch[257 + at] = chance.choice((0, model.pack(store.slots, chance.choice((0, 1)), 0)))
+
+
+def tables_list():
+    chance = random.Random(6)
+    lists = ModelLists("mapper", "Tables that no history reaches: the model's answers alone.")
+    for _ in range(200):
+        list_any_tables(lists, chance)
+    return lists
+
+
+FILES = {
+    "tables.txt": tables_list,
+    "leaves.txt": leaves_list,
+    "cutoffs.txt": cutoffs_list,
+    "stores.txt": stores_list,
+    "files.txt": files_list,
+    "large.txt": large_list,
+}
+
+
+def run(write, directory=DIRECTORY):
+    """(lines, of which the Rust's, wrong lines)"""
+    lines, rusts, wrong = 0, 0, []
+    for name, make in FILES.items():
+        lists = make()
+        wrong += lists.finish()
+        path = os.path.join(directory, name)
+        if write:
+            with open(path, "w", encoding="ascii") as file:
+                file.write(lists.text())
+        with open(path, encoding="ascii") as file:
+            stored = file.read().split("\n")
+        made = lists.text().split("\n")
+        for at in range(max(len(made), len(stored))):
+            old, new = stored[at : at + 1], made[at : at + 1]
+            if old != new:
+                wrong.append(f"answers/{name}, line {at + 1}:\n    listed {old}\n    now    {new}")
+                break
+        lines += len(lists.lines)
+        rusts += sum(line.startswith("rust ") for line in lists.lines)
+    return lines, rusts, wrong
+
+
+if __name__ == "__main__":
+    lines, rusts, wrong = run(sys.argv[1:] == ["write"])
+    print(*wrong, f"{lines} lines, {rusts} of them the Rust's answers, {len(wrong)} wrong", sep="\n")
+    sys.exit(bool(wrong))

@@ -1,0 +1,50 @@
+"""Truncation for t other than 80, on copies of the original in which one constant is another, and nothing else."""
+
+import os
+import random
+import shutil
+import subprocess
+import sys
+import tempfile
+
+HERE = os.path.dirname(os.path.abspath(__file__))
+ORACLE = os.path.join(HERE, "..")
+CONSTANT = "const FILE_TARGET_FILL_RATIO: u64 = {};"
+
+# 87 is beyond document 01's range: there the cut would be no cut, and the Rust asserts.
+ASSERTING = ("truncations 1 0 20 22", "panic assertion failed: target_len < max_occupied_bytes")
+
+
+def build(directory, t):
+    for part in ("original", "rust"):
+        shutil.copytree(os.path.join(ORACLE, part), os.path.join(directory, part), ignore=shutil.ignore_patterns("target"))
+    path = os.path.join(directory, "original", "heap.rs")
+    with open(path, encoding="utf-8") as file:
+        text = file.read()
+    assert text.count(CONSTANT.format(80)) == 1
+    with open(path, "w", encoding="utf-8") as file:
+        file.write(text.replace(CONSTANT.format(80), CONSTANT.format(t)))
+    subprocess.run(["cargo", "build", "--release", "--offline", "--quiet"], cwd=os.path.join(directory, "rust"), check=True)
+    return os.path.join(directory, "rust", "target", "release", "oracle")
+
+
+def main():
+    from comparison import beside, truncations
+
+    failed = False
+    for t in (1, 50, 86, 87):
+        with tempfile.TemporaryDirectory() as directory:
+            beside.DRIVER = build(directory, t)
+            if t == 87:
+                (answer,) = beside.ask("heap", [ASSERTING[0]])
+                print(f"t 87: {ASSERTING[0]}: {answer}")
+                failed |= answer != ASSERTING[1]
+                continue
+            compared, found = truncations.run(random.Random(t), 100, 60, t)
+            print(f"t {t}, by a copy with that constant: {compared} truncations compared, {len(found)} unlisted", flush=True)
+            beside.show(found)
+            failed |= bool(found)
+    sys.exit(failed)
+
+
+main()

@@ -1,0 +1,83 @@
+"""Wrong models, a wrong list, a wrong document, a wrong original: the comparison has to notice each."""
+
+import os
+import shutil
+import subprocess
+import sys
+import tempfile
+
+from comparison.beside import DRIVER, HERE
+
+ORACLE = os.path.join(HERE, "..")
+
+# (what goes wrong, file, text, wrong text)
+WRONG = [
+    ("frame width by object size", "oracle/model.py", "    if size <= 65_535:\n", "    if size <= 65_536:\n"),
+    ("another check mask", "oracle/model.py", "CHECK_MASK = 0xAF", "CHECK_MASK = 0xAE"),
+    ("a length beyond the room accepted", "oracle/model.py", "    if length > room(size):\n", "    if length > size:\n"),
+    ("cookie version 2", "oracle/model.py", "\nVERSION = 1\n", "\nVERSION = 2\n"),
+    ("slabs packed from 0", "oracle/model.py", "return (slab + 1) * SLOT_SPAN + slot", "return slab * SLOT_SPAN + slot"),
+    ("the quotient cut instead of rounded", "oracle/model.py", "    if 2 * rest > over", "    if 2 * rest > 2 * over"),
+    ("not the smallest id", "oracle/model.py", "self.id_marks.find(FREE, 1)", "self.id_marks.rfind(FREE, 1)"),
+    ("id 0 not counted", "oracle/model.py", "            self.id_marks[0] = HELD\n            self.count_granted(0)\n",
+     "            self.id_marks[0] = HELD\n"),
+    ("a slot freed at commit", "oracle/model.py", "self.slot_marks[self.at(older)] = PENDING",
+     "self.slot_marks[self.at(older)] = FREE"),
+    ("a freed object's owner kept", "oracle/model.py", "self.owners[self.at(older)] = 0", "pass"),
+    ("a commit that writes no location", "oracle/model.py", "            self.locations[id] = location\n            if",
+     "            if"),
+    ("an abandoned slot not counted", "oracle/model.py", "self.count_freed(1 + unpack(self.slots, location)[0], 1)",
+     "pass"),
+    ("tip 0 where all are free again", "oracle/model.py", "return 1 if self.used[allocator] else 0", "return 0"),
+    ("the margin from slot 17 on", "oracle/model.py", "UNPADDED_SLOTS = 16", "UNPADDED_SLOTS = 17"),
+    ("the high mark not lowered", "oracle/model.py", "self.high[slab] = self.tip(1 + slab) - 1", "pass"),
+    ("a refusal that writes", "oracle/model.py", "            return Refused(NO_BATCH)\n",
+     "            self.granted[0] += 1\n            return Refused(NO_BATCH)\n"),
+    ("a refusal never given", "oracle/model.py", "            return Refused(NOTHING_TO_CUT)\n", "            return DONE\n"),
+    ("one digit of a leaf's answer", "oracle/answers/leaves.txt", "rust class 59 ok 0", "rust class 59 ok 1"),
+    ("one line of a history lost", "oracle/answers/stores.txt", "rust release ok\n", ""),
+    ("one number of a cut", "oracle/answers/files.txt", "rust truncation 0 80 cut ", "rust truncation 0 80 cut 1"),
+    ("a difference struck off the list", "docs/DIFFERENCES.md", "`class 65529`", "`class 65530`"),
+    ("an edited original", "oracle/original/heap.rs", "FILE_RESIZE_MARGIN: u64 = 115", "FILE_RESIZE_MARGIN: u64 = 116"),
+]
+
+
+def noticed(root, path):
+    """Whether the comparison ends in failure, and its last words."""
+    if path.startswith("oracle/original/"):
+        command, directory = ["sha256sum", "--check", "SHA256SUMS"], os.path.join(root, "oracle", "original")
+    else:
+        command = [sys.executable, "-m", "comparison", "--size", "small", "--stop-at-first"]
+        directory = os.path.join(root, "oracle")
+    environment = {**os.environ, "ORACLE_DRIVER": os.path.abspath(DRIVER), "PYTHONDONTWRITEBYTECODE": "1"}
+    result = subprocess.run(command, cwd=directory, env=environment, capture_output=True, text=True)
+    words = [line for line in (result.stdout + result.stderr).split("\n") if line.strip()]
+    return result.returncode != 0, words
+
+
+def main():
+    missed = 0
+    with tempfile.TemporaryDirectory() as root:
+        for part in ("oracle", "docs"):
+            source = os.path.join(ORACLE, "..", part)
+            shutil.copytree(source, os.path.join(root, part), ignore=shutil.ignore_patterns("target", "__pycache__"))
+        fails, words = noticed(root, "")
+        print(f"unchanged: {words[-1]}", flush=True)
+        missed += fails
+        for what, path, right, wrong in WRONG:
+            place = os.path.join(root, path)
+            with open(place, encoding="utf-8") as file:
+                text = file.read()
+            assert right in text, f"{path} has no {right!r}"
+            with open(place, "w", encoding="utf-8") as file:
+                file.write(text.replace(right, wrong, 1))
+            fails, words = noticed(root, path)
+            with open(place, "w", encoding="utf-8") as file:
+                file.write(text)
+            print(f"{'noticed' if fails else 'MISSED '}  {what}: {words[-1]}", flush=True)
+            missed += not fails
+    print(f"{len(WRONG)} wrong versions, {missed} missed")
+    sys.exit(missed != 0)
+
+
+main()

@@ -1,0 +1,61 @@
+"""Truncation: `write_batch`'s own pass over real files, for chosen tips and high marks.
+
+The Rust has one t, 80. `oracle/compare --other-t` builds copies with that one constant changed and asks them too.
+"""
+
+import model
+from model import DONE, KEEP, SLABS, SLAB_SIZES, Store
+
+from comparison.beside import Beside
+from comparison.histories import T_OF_THE_RUST
+
+
+def after(slab, tip, high, t):
+    """The file's length, the high mark and whether it was cut, by the model."""
+    store = Store(2, 65_536 if max(tip, high + 1) > 256 else 256)
+    store.slot_marks[slab * store.slots + tip - 1] = model.HELD
+    store.used[1 + slab] = 1
+    store.high[slab] = high
+    before = max(tip, high + 1) * SLAB_SIZES[slab]
+    answer = store.truncation(slab, t)
+    if answer == KEEP:
+        assert store.report_cut(slab, t) == model.Refused(model.NOTHING_TO_CUT)
+        return before, store.high[slab], None
+    assert store.report_cut(slab, t) == DONE
+    return answer.length, store.high[slab], answer.given_back
+
+
+def ask_about(beside, rows, t):
+    """Rows (slab, tip, high), each slab once: one pass of the Rust over all of them."""
+    answers = [after(*row, t) for row in rows]
+    cuts = [given_back for _, _, given_back in answers if given_back is not None]
+    line = " ".join(["truncations", str(len(rows)), *(f"{slab} {tip} {high}" for slab, tip, high in rows)])
+    after_words = " ".join(f"{length} {high}" for length, high, _ in answers)
+    beside.call(line, f"ok {len(cuts)} {sum(cuts)} {after_words}")
+    return len(rows)
+
+
+def run(chance, limit, passes, t=T_OF_THE_RUST):
+    """Every tip and high mark below the limit in some slab, then random ones in all slabs at once. Empty files cost
+    nothing, so slots of 16 GiB are compared too."""
+    beside = Beside("heap")
+    compared = 0
+    pairs = [(tip, high) for tip in range(1, limit) for high in range(limit)]
+    for first in range(0, len(pairs), SLABS):
+        slabs = list(range(SLABS))
+        chance.shuffle(slabs)
+        rows = [(slab, tip, high) for slab, (tip, high) in zip(slabs, pairs[first : first + SLABS])]
+        compared += ask_about(beside, rows, t)
+    for _ in range(passes):
+        rows = []
+        for slab in range(SLABS):
+            tip = chance.randint(1, 256)
+            high = chance.choice((chance.randint(0, 255), min(tip * 5 // 4, 255), min(tip * 5 // 4 + 1, 255)))
+            rows.append((slab, tip, high))
+        compared += ask_about(beside, rows, t)
+    # The largest numbers that the port's capacities allow, in the smallest and the largest slab.
+    for slab in (0, SLABS - 1):
+        for tip, high in ((65_536, 65_535), (52_428, 65_535), (52_429, 65_535), (1, 65_535), (17, 65_535), (65_536, 0)):
+            compared += ask_about(beside, [(slab, tip, high)], t)
+    beside.finish()
+    return compared, beside.differences

@@ -1,0 +1,719 @@
+"""A second judge: document 01's rules as plain Python, written from the document's text and from nothing else.
+
+Every call of the port is one function or method. A grant gives back the answer; a refusal gives back `Refused(number,
+index)` and changes nothing. The rules are total: a `Store` may hold any table contents at all, and a mark that is none of
+free, held and pending counts as held.
+
+Bytes in, bytes out; ratios go by the bits of their f32; no float is used anywhere.
+"""
+
+import zlib
+from array import array
+from typing import NamedTuple
+
+# ---------------------------------------------------------------------------------------------------------------------
+# Refusals
+
+
+class Refused(NamedTuple):
+    number: int
+    index: int = 0
+
+
+WRONG_LENGTH = 1
+TOO_LARGE = 2
+OUT_OF_RANGE = 3
+CHECK_DIFFERS = 4
+BEYOND_ROOM = 5
+UNKNOWN_VERSION = 6
+FANOUT_DIFFERS = 7
+NOT_HELD = 8
+REPEATED_ID = 9
+NONE_FREE = 10
+BATCH_OPEN = 11
+NO_BATCH = 12
+TABLES_DISAGREE = 13
+RATIO_OUT_OF_RANGE = 14
+TOO_MANY_UPDATES = 15
+REPEATED_LOCATION = 16
+NOTHING_TO_CUT = 17
+
+
+def refused(answer):
+    return isinstance(answer, Refused)
+
+
+# ---------------------------------------------------------------------------------------------------------------------
+# Sizes and frames
+
+SLAB_SIZES = (
+    64, 80, 96, 112, 128, 160, 192, 224, 256, 320, 384, 448, 512, 640, 768, 896, 1024, 1280, 1536, 1792, 2048, 2560, 3072,
+    3584, 4096, 5120, 6144, 7168, 8192, 10240, 12288, 14336, 16384, 20480, 24576, 28672, 32768, 40960, 49152, 57344, 65536,
+    98304, 131072, 163840, 196608, 262144, 393216, 524288, 786432, 1048576, 1572864, 2097152, 3145728, 4194304, 6291456,
+    8388608, 12582912, 16777216, 25165824, 33554432, 50331648, 67108864, 100663296, 134217728, 201326592, 268435456,
+    402653184, 536870912, 805306368, 1073741824, 1610612736, 2147483648, 3221225472, 4294967296, 6442450944, 8589934592,
+    12884901888, 17179869184,
+)
+SLABS = 78
+CHECK_BYTES = 4
+CHECK_MASK = 0xAF
+assert len(SLAB_SIZES) == SLABS
+
+
+def field_width(size):
+    """The bytes of the length field of a slab of this size."""
+    if size <= 255:
+        return 1
+    if size <= 65_535:
+        return 2
+    if size <= 4_294_967_295:
+        return 4
+    return 8
+
+
+def room(size):
+    """The longest object of a slab of this size."""
+    return size - field_width(size) - CHECK_BYTES
+
+
+def slab_for_size(length):
+    for slab, size in enumerate(SLAB_SIZES):
+        if length + field_width(size) + CHECK_BYTES <= size:
+            return slab
+    return Refused(TOO_LARGE)
+
+
+def _crc_table():
+    """One entry a byte: eight single steps of the reflected CRC with polynomial EDB88320."""
+    table = []
+    for byte in range(256):
+        state = byte
+        for _ in range(8):
+            state = (state >> 1) ^ (0xEDB88320 if state & 1 else 0)
+        table.append(state)
+    return table
+
+
+_CRC_TABLE = _crc_table()
+
+
+def crc32_by_definition(data):
+    state = 0xFFFFFFFF
+    for byte in data:
+        state = (state >> 8) ^ _CRC_TABLE[(state ^ byte) & 0xFF]
+    return state ^ 0xFFFFFFFF
+
+
+def crc32(data):
+    """The same, faster; the comparison runs both beside the Rust."""
+    return zlib.crc32(data)
+
+
+def check(data):
+    return (crc32(data) ^ CHECK_MASK).to_bytes(CHECK_BYTES, "little")
+
+
+def write_slot(slot_length, data):
+    """The bytes of a written slot."""
+    if slot_length not in SLAB_SIZES:
+        return Refused(WRONG_LENGTH)
+    if len(data) > room(slot_length):
+        return Refused(BEYOND_ROOM)
+    zeros = bytes(room(slot_length) - len(data))
+    body = bytes(data) + zeros + len(data).to_bytes(field_width(slot_length), "little")
+    return body + check(body)
+
+
+def read_slot(slot):
+    """The object's bytes: the first n of the slot."""
+    size = len(slot)
+    if size not in SLAB_SIZES:
+        return Refused(WRONG_LENGTH)
+    if check(slot[: size - CHECK_BYTES]) != bytes(slot[size - CHECK_BYTES :]):
+        return Refused(CHECK_DIFFERS)
+    length = int.from_bytes(slot[room(size) : size - CHECK_BYTES], "little")
+    if length > room(size):
+        return Refused(BEYOND_ROOM)
+    return bytes(slot[:length])
+
+
+# ---------------------------------------------------------------------------------------------------------------------
+# Settings cookie
+
+COOKIE_BYTES = 64
+VERSION = 1
+
+
+def write_cookie(buffer_length, fanout):
+    if buffer_length != COOKIE_BYTES:
+        return Refused(WRONG_LENGTH)
+    body = VERSION.to_bytes(2, "little") + fanout.to_bytes(8, "little")
+    body += bytes(COOKIE_BYTES - CHECK_BYTES - len(body))
+    return body + check(body)
+
+
+def read_cookie(cookie, fanout):
+    """True where the cookie is this fanout's."""
+    if len(cookie) < COOKIE_BYTES:
+        return Refused(WRONG_LENGTH)
+    if check(cookie[:60]) != bytes(cookie[60:64]):
+        return Refused(CHECK_DIFFERS)
+    if int.from_bytes(cookie[0:2], "little") != VERSION:
+        return Refused(UNKNOWN_VERSION)
+    if int.from_bytes(cookie[2:10], "little") != fanout:
+        return Refused(FANOUT_DIFFERS)
+    return True
+
+
+# ---------------------------------------------------------------------------------------------------------------------
+# Addresses
+
+LARGEST_CAPACITY = 65_536
+SLOT_SPAN = 2**56
+
+
+def good_slot_capacity(slots):
+    return 1 <= slots <= LARGEST_CAPACITY
+
+
+def good_id_capacity(ids):
+    return 2 <= ids <= LARGEST_CAPACITY
+
+
+def pack(slots, slab, slot):
+    if not good_slot_capacity(slots):
+        return Refused(WRONG_LENGTH)
+    if slab >= SLABS or slot >= slots:
+        return Refused(OUT_OF_RANGE)
+    return (slab + 1) * SLOT_SPAN + slot
+
+
+def unpack(slots, location):
+    """(slab, slot), or None for "no object"."""
+    if not good_slot_capacity(slots):
+        return Refused(WRONG_LENGTH)
+    if location == 0:
+        return None
+    top, slot = divmod(location, SLOT_SPAN)
+    if top == 0 or top > SLABS or slot >= slots:
+        return Refused(OUT_OF_RANGE)
+    return (top - 1, slot)
+
+
+# ---------------------------------------------------------------------------------------------------------------------
+# f32, from bits
+
+
+def f32_finite(bits):
+    return (bits >> 23) & 0xFF != 0xFF
+
+
+def rounded_quotient(numerator, denominator):
+    """numerator / denominator rounded once to f32, nearest, ties to even: (m, e) for the value m × 2^e.
+
+    Both are non-negative whole numbers, the denominator above 0; the quotients here are 0 or well within f32's normal
+    range, except where a tiny ratio sends one above it: then (None, None), infinity.
+    """
+    if numerator == 0:
+        return (0, 0)
+    exponent = numerator.bit_length() - denominator.bit_length() - 24
+    while True:
+        if exponent >= 0:
+            scaled, over = numerator, denominator << exponent
+        else:
+            scaled, over = numerator << -exponent, denominator
+        if scaled < over << 24:
+            break
+        exponent += 1
+    exponent = max(exponent, -149)
+    if exponent >= 0:
+        scaled, over = numerator, denominator << exponent
+    else:
+        scaled, over = numerator << -exponent, denominator
+    whole, rest = divmod(scaled, over)
+    if 2 * rest > over or (2 * rest == over and whole & 1):
+        whole += 1
+    if whole == 1 << 24:
+        whole, exponent = 1 << 23, exponent + 1
+    if exponent > 104:
+        return (None, None)
+    return (whole, exponent)
+
+
+def good_ratio(bits):
+    return f32_finite(bits) and bits >> 31 == 0 and bits != 0 and bits <= 0x3F800000
+
+
+def ratio_parts(bits):
+    """(m, e) for a positive finite f32 of value m × 2^e."""
+    exponent, fraction = bits >> 23, bits & 0x7FFFFF
+    return (fraction, -149) if exponent == 0 else (fraction + 0x800000, exponent - 150)
+
+
+def at_most(left, right):
+    """left ≤ right, for two values (m, e)."""
+    (left_m, left_e), (right_m, right_e) = left, right
+    low = min(left_e, right_e)
+    return left_m << (left_e - low) <= right_m << (right_e - low)
+
+
+def cutoff(live, tip, ratio_bits):
+    """The first slot of the part to be emptied, or None for "nothing". The ratio is in range, live ≤ tip."""
+    if tip == 0:
+        return None
+    ratio = ratio_parts(ratio_bits)
+    if at_most(ratio, rounded_quotient(live, tip)):
+        return None
+    # A ratio of at most 1 has a negative exponent: live / r = live × 2^-e / m.
+    ratio_m, ratio_e = ratio
+    start_m, start_e = rounded_quotient(live << -ratio_e, ratio_m)
+    if start_m is None:
+        return None
+    start = start_m << start_e if start_e >= 0 else start_m >> -start_e
+    return None if start >= tip else start
+
+
+# ---------------------------------------------------------------------------------------------------------------------
+# The store
+
+FREE, HELD, PENDING = 0, 1, 2
+MOST_UPDATES = 256
+BATCH_WORDS = 1 + 2 * MOST_UPDATES
+ALLOCATORS = 1 + SLABS
+WORD = 2**64
+
+LEAST_RATIO_T, LARGEST_RATIO_T = 1, 86
+MARGIN = 115
+UNPADDED_SLOTS = 16
+
+
+_MARK_AS_READ = bytes(mark if mark in (FREE, PENDING) else HELD for mark in range(256))
+
+
+class Cut(NamedTuple):
+    length: int
+    given_back: int
+
+
+KEEP = "keep"
+DONE = "done"
+
+
+# The tables that each call uses and is therefore lent, in the words of `Store`.
+TALLIES = ("granted", "freed", "used", "high")
+EVERY_TABLE = ("id_marks", "locations", "slot_marks", "owners", "batch") + TALLIES
+LENT = {
+    "fresh": EVERY_TABLE,
+    "rebuild": EVERY_TABLE,
+    "new_id": ("id_marks", "batch") + TALLIES,
+    "lookup": ("id_marks", "locations", "slot_marks", "owners"),
+    "offer": EVERY_TABLE,
+    "commit": EVERY_TABLE,
+    "abandon": ("slot_marks", "batch") + TALLIES,
+    "release": ("id_marks", "slot_marks", "batch") + TALLIES,
+    "counters": TALLIES,
+    "defrag": ("locations", "slot_marks", "owners", "batch") + TALLIES,
+    "truncation": ("slot_marks", "batch") + TALLIES,
+}
+
+
+class Store:
+    """The state that document 01's store calls read and write.
+
+    ids, slots     the capacities
+    id_marks       ids marks: 0 free, 1 held, 2 pending, any other held
+    locations      ids packed locations, 0 for none
+    slot_marks     78 × slots marks; slab k's slot j at k × slots + j
+    owners         78 × slots owner entries, likewise
+    batch          513 words: word 0 is 0 where none is open and n + 1 for a kept batch of n; 256 ids; 256 new locations,
+                   0 for a Free. Rows that an open batch doesn't use, and all rows where none is open, are no part of the
+                   state: nothing reads them.
+    granted, freed, used
+                   79 words each, for the ids and then each slab; used is 0 where no number was allocated or held by a row
+                   since fresh or rebuild
+    high           78 high marks
+    """
+
+    TABLES = EVERY_TABLE
+
+    def __init__(self, ids, slots):
+        """Tables of the right lengths, all zero: a fresh store, where the capacities are good."""
+        self.ids, self.slots = ids, slots
+        self.clear()
+
+    def clear(self):
+        self.id_marks = bytearray(self.ids)
+        self.locations = array("Q", bytes(8 * self.ids))
+        self.slot_marks = bytearray(SLABS * self.slots)
+        self.owners = array("Q", bytes(8 * SLABS * self.slots))
+        self.batch = array("Q", bytes(8 * BATCH_WORDS))
+        self.granted = array("Q", bytes(8 * ALLOCATORS))
+        self.freed = array("Q", bytes(8 * ALLOCATORS))
+        self.used = array("Q", bytes(8 * ALLOCATORS))
+        self.high = array("Q", bytes(8 * SLABS))
+
+    def copy(self):
+        other = object.__new__(Store)
+        other.ids, other.slots = self.ids, self.slots
+        for table in Store.TABLES:
+            setattr(other, table, getattr(self, table)[:])
+        return other
+
+    def value(self):
+        """All that the rules can see, for comparing two stores: two marks that both count as held are one, so are two
+        used words above 0."""
+        kept = self.kept() if self.batch[0] - 1 <= MOST_UPDATES else None
+        marks = [bytes(table).translate(_MARK_AS_READ) for table in (self.id_marks, self.slot_marks)]
+        words = [table.tobytes() for table in (self.locations, self.owners, self.granted, self.freed, self.high)]
+        used = tuple(word != 0 for word in self.used)
+        return (self.ids, self.slots, self.batch[0], None if kept is None else tuple(kept), *marks, *words, used)
+
+    # -- what the tables say
+
+    def lent_wrongly(self, call):
+        """Refusal 1, as far as it speaks of the capacities and of the tables that this call is lent."""
+        if not good_id_capacity(self.ids) or not good_slot_capacity(self.slots):
+            return True
+        slots = SLABS * self.slots
+        expected = (self.ids, self.ids, slots, slots, BATCH_WORDS, ALLOCATORS, ALLOCATORS, ALLOCATORS, SLABS)
+        lengths = dict(zip(Store.TABLES, expected))
+        return any(len(getattr(self, table)) != lengths[table] for table in LENT[call])
+
+    def batch_open(self):
+        return self.batch[0] != 0
+
+    def kept(self):
+        """(id, new location) of each kept update, where one is open and holds no more than 256."""
+        if not self.batch_open():
+            return None
+        count = self.batch[0] - 1
+        return list(zip(self.batch[1 : 1 + count], self.batch[1 + MOST_UPDATES : 1 + MOST_UPDATES + count]))
+
+    def id_held(self, id):
+        return self.id_marks[id] not in (FREE, PENDING)
+
+    def slot_held(self, slab, slot):
+        return self.slot_marks[slab * self.slots + slot] not in (FREE, PENDING)
+
+    def in_id_range(self, id):
+        return 0 < id < self.ids
+
+    def slab_marks(self, slab):
+        return self.slot_marks[slab * self.slots : (slab + 1) * self.slots]
+
+    def marks_of(self, allocator):
+        return self.id_marks if allocator == 0 else self.slab_marks(allocator - 1)
+
+    def tip(self, allocator):
+        """Largest number not free, plus 1; if all are free, 1 where any was allocated or held by a row, else 0."""
+        marks = self.marks_of(allocator)
+        not_free = len(marks.rstrip(b"\0"))
+        if not_free:
+            return not_free
+        return 1 if self.used[allocator] else 0
+
+    def live(self, allocator):
+        """Held plus pending."""
+        marks = self.marks_of(allocator)
+        return len(marks) - marks.count(FREE)
+
+    def tables_disagree(self, id):
+        """Refusal 13's table reason: the id's location out of range, its slot not held, or its owner not this id."""
+        if self.locations[id] == 0:
+            return False
+        address = unpack(self.slots, self.locations[id])
+        if refused(address):
+            return True
+        slab, slot = address
+        return not self.slot_held(slab, slot) or self.owners[slab * self.slots + slot] != id
+
+    def at(self, location):
+        """Where a packed location in range stands in the slot tables."""
+        slab, slot = unpack(self.slots, location)
+        return slab * self.slots + slot
+
+    def count_granted(self, allocator):
+        self.granted[allocator] = (self.granted[allocator] + 1) % WORD
+        self.used[allocator] = 1
+
+    def count_freed(self, allocator, count):
+        self.freed[allocator] = (self.freed[allocator] + count) % WORD
+
+    # -- fresh, rebuild
+
+    def fresh(self):
+        return self.rebuild([], [])
+
+    def rebuild(self, row_ids, row_locations):
+        if self.lent_wrongly("rebuild") or len(row_ids) != len(row_locations):
+            return Refused(WRONG_LENGTH)
+        ids_seen, locations_seen = set(), set()
+        for row, (id, location) in enumerate(zip(row_ids, row_locations)):
+            if not self.in_id_range(id):
+                return Refused(NOT_HELD, row)
+            if id in ids_seen:
+                return Refused(REPEATED_ID, row)
+            if location == 0 or refused(unpack(self.slots, location)):
+                return Refused(OUT_OF_RANGE, row)
+            if location in locations_seen:
+                return Refused(REPEATED_LOCATION, row)
+            ids_seen.add(id)
+            locations_seen.add(location)
+        self.clear()
+        for id, location in zip(row_ids, row_locations):
+            self.id_marks[id] = HELD
+            self.locations[id] = location
+            self.slot_marks[self.at(location)] = HELD
+            self.owners[self.at(location)] = id
+            self.used[0] = 1
+            self.used[1 + unpack(self.slots, location)[0]] = 1
+        return DONE
+
+    # -- ids
+
+    def new_id(self):
+        if self.lent_wrongly("new_id"):
+            return Refused(WRONG_LENGTH)
+        if self.batch_open():
+            return Refused(BATCH_OPEN)
+        id = self.id_marks.find(FREE, 1)
+        if id < 0:
+            return Refused(NONE_FREE)
+        if self.id_marks[0] == FREE:
+            self.id_marks[0] = HELD
+            self.count_granted(0)
+        self.id_marks[id] = HELD
+        self.count_granted(0)
+        return id
+
+    def lookup(self, id):
+        if self.lent_wrongly("lookup"):
+            return Refused(WRONG_LENGTH)
+        if not self.in_id_range(id) or not self.id_held(id) or self.locations[id] == 0:
+            return Refused(NOT_HELD)
+        if self.tables_disagree(id):
+            return Refused(TABLES_DISAGREE)
+        return self.locations[id]
+
+    # -- batches
+
+    def offer(self, update_ids, stores, lengths, answer_rows=None):
+        """One packed location for each update, 0 for a Free; `answer_rows` is the length of the lent list."""
+        if answer_rows is None:
+            answer_rows = len(update_ids)
+        same = len(update_ids) == len(stores) == len(lengths) == answer_rows
+        if self.lent_wrongly("offer") or not same:
+            return Refused(WRONG_LENGTH)
+        if self.batch_open():
+            return Refused(BATCH_OPEN)
+        if len(update_ids) > MOST_UPDATES:
+            return Refused(TOO_MANY_UPDATES)
+        asked = [0] * SLABS
+        seen = set()
+        for index, (id, store, length) in enumerate(zip(update_ids, stores, lengths)):
+            if not self.in_id_range(id) or not self.id_held(id):
+                return Refused(NOT_HELD, index)
+            if id in seen:
+                return Refused(REPEATED_ID, index)
+            if store and refused(slab_for_size(length)):
+                return Refused(TOO_LARGE, index)
+            if self.tables_disagree(id):
+                return Refused(TABLES_DISAGREE, index)
+            seen.add(id)
+            if store:
+                asked[slab_for_size(length)] += 1
+        for slab in range(SLABS):
+            if asked[slab] and asked[slab] > self.slab_marks(slab).count(FREE):
+                return Refused(NONE_FREE, slab)
+        given = []
+        for id, store, length in zip(update_ids, stores, lengths):
+            given.append(self.take_slot(slab_for_size(length)) if store else 0)
+        self.batch[0] = len(given) + 1
+        for index, (id, location) in enumerate(zip(update_ids, given)):
+            self.batch[1 + index] = id
+            self.batch[1 + MOST_UPDATES + index] = location
+        return given
+
+    def take_slot(self, slab):
+        first = slab * self.slots
+        at = self.slot_marks.find(FREE, first, first + self.slots)
+        self.slot_marks[at] = HELD
+        self.count_granted(1 + slab)
+        return pack(self.slots, slab, at - first)
+
+    def kept_update_out_of_range(self, id, location):
+        return not self.in_id_range(id) or refused(unpack(self.slots, location))
+
+    def refuse_kept(self, call, reason):
+        if self.lent_wrongly(call):
+            return Refused(WRONG_LENGTH)
+        if not self.batch_open():
+            return Refused(NO_BATCH)
+        if self.batch[0] - 1 > MOST_UPDATES:
+            return Refused(TABLES_DISAGREE)
+        for index, (id, location) in enumerate(self.kept()):
+            if reason(id, location):
+                return Refused(TABLES_DISAGREE, index)
+        return None
+
+    def commit(self):
+        """All updates are checked against the tables found, then applied in list order."""
+        bad = lambda id, location: self.kept_update_out_of_range(id, location) or self.tables_disagree(id)
+        refusal = self.refuse_kept("commit", bad)
+        if refusal is not None:
+            return refusal
+        for id, location in self.kept():
+            older = self.locations[id]
+            self.locations[id] = location
+            if location:
+                self.owners[self.at(location)] = id
+            else:
+                self.id_marks[id] = PENDING
+                if older:
+                    self.owners[self.at(older)] = 0
+            if older:
+                self.slot_marks[self.at(older)] = PENDING
+        self.batch[0] = 0
+        return DONE
+
+    def abandon(self):
+        """Each kept Store frees its slot and counts once, whatever the slot's mark was."""
+        refusal = self.refuse_kept("abandon", self.kept_update_out_of_range)
+        if refusal is not None:
+            return refusal
+        for _, location in self.kept():
+            if location:
+                self.slot_marks[self.at(location)] = FREE
+                self.count_freed(1 + unpack(self.slots, location)[0], 1)
+        self.batch[0] = 0
+        return DONE
+
+    def release(self):
+        if self.lent_wrongly("release"):
+            return Refused(WRONG_LENGTH)
+        if self.batch_open():
+            return Refused(BATCH_OPEN)
+        for allocator in range(ALLOCATORS):
+            self.count_freed(allocator, self.marks_of(allocator).count(PENDING))
+        pending_to_free = bytes.maketrans(bytes([PENDING]), bytes([FREE]))
+        self.id_marks = self.id_marks.translate(pending_to_free)
+        self.slot_marks = self.slot_marks.translate(pending_to_free)
+        return DONE
+
+    # -- counters
+
+    def counters(self):
+        """(granted, freed) of each allocator: the ids', then each slab's."""
+        if self.lent_wrongly("counters"):
+            return Refused(WRONG_LENGTH)
+        return list(zip(self.granted, self.freed))
+
+    # -- defrag
+
+    def defrag(self, ratio_bits, answer_rows=None):
+        """(id, packed location) by slab, then slot; `answer_rows` is the length of the lent list."""
+        if answer_rows is None:
+            answer_rows = self.ids - 1
+        if self.lent_wrongly("defrag") or answer_rows != self.ids - 1:
+            return Refused(WRONG_LENGTH)
+        if self.batch_open():
+            return Refused(BATCH_OPEN)
+        if not good_ratio(ratio_bits):
+            return Refused(RATIO_OUT_OF_RANGE)
+        rows = []
+        for slab in range(SLABS):
+            tip = self.tip(1 + slab)
+            start = cutoff(self.live(1 + slab), tip, ratio_bits)
+            if start is None:
+                continue
+            for slot in range(start, tip):
+                owner = self.owners[slab * self.slots + slot]
+                location = pack(self.slots, slab, slot)
+                if self.in_id_range(owner) and self.locations[owner] == location:
+                    rows.append((owner, location))
+        return rows
+
+    # -- truncation
+
+    def refuse_truncation(self, slab, t):
+        if self.lent_wrongly("truncation"):
+            return Refused(WRONG_LENGTH)
+        if self.batch_open():
+            return Refused(BATCH_OPEN)
+        if slab >= SLABS or self.high[slab] >= self.slots:
+            return Refused(OUT_OF_RANGE)
+        if not LEAST_RATIO_T <= t <= LARGEST_RATIO_T:
+            return Refused(RATIO_OUT_OF_RANGE)
+        return None
+
+    def truncation_test(self, slab, t):
+        """Keep, or the cut, by the larger of the stored high mark and the top."""
+        tip = self.tip(1 + slab)
+        if tip == 0:
+            return KEEP
+        top = tip - 1
+        return cut_or_keep(SLAB_SIZES[slab], top, max(self.high[slab], top), t)
+
+    def truncation(self, slab, t):
+        refusal = self.refuse_truncation(slab, t)
+        if refusal is not None:
+            return refusal
+        answer = self.truncation_test(slab, t)
+        tip = self.tip(1 + slab)
+        if tip:
+            self.high[slab] = max(self.high[slab], tip - 1)
+        return answer
+
+    def report_cut(self, slab, t):
+        """The cut was done: the high mark comes down to the top."""
+        refusal = self.refuse_truncation(slab, t)
+        if refusal is not None:
+            return refusal
+        if self.truncation_test(slab, t) == KEEP:
+            return Refused(NOTHING_TO_CUT)
+        self.high[slab] = self.tip(1 + slab) - 1
+        return DONE
+
+
+def cut_or_keep(size, top, high, t):
+    current = (top + 1) * size
+    most = (high + 1) * size
+    if current * 100 // most >= t:
+        return KEEP
+    length = current if top < UNPADDED_SLOTS else current * MARGIN // 100
+    return Cut(length, max(current - length, 0))
+
+
+# ---------------------------------------------------------------------------------------------------------------------
+# The lent tables of the port, read as a store
+
+
+def marks_as_read(marks, hint, waiting):
+    """A 0 below the hint counts as held; where nothing waits, a 2 counts as held; so does every other number but 0 and 2."""
+    read = bytearray(marks)
+    for at, mark in enumerate(marks):
+        if mark == FREE:
+            read[at] = HELD if at < hint else FREE
+        elif mark == PENDING:
+            read[at] = PENDING if waiting else HELD
+        else:
+            read[at] = HELD
+    return read
+
+
+def store_as_read(ids, slots, id_marks, locations, slot_marks, owners, batch, tallies):
+    """The store that six lent tables mean. The tallies are 473 words: 79 granted, 79 freed, 79 used, 79 hints, 79 waiting,
+    78 high marks."""
+    store = object.__new__(Store)
+    store.ids, store.slots = ids, slots
+    parts = [tallies[ALLOCATORS * part : ALLOCATORS * (part + 1)] for part in range(5)]
+    store.granted, store.freed, store.used = (array("Q", part) for part in parts[:3])
+    hints, waiting = parts[3], parts[4]
+    store.high = array("Q", tallies[5 * ALLOCATORS :])
+    store.locations, store.owners, store.batch = array("Q", locations), array("Q", owners), array("Q", batch)
+    store.id_marks = marks_as_read(id_marks, hints[0], waiting[0])
+    store.slot_marks = bytearray()
+    for slab in range(SLABS):
+        marks = slot_marks[slab * slots : (slab + 1) * slots]
+        store.slot_marks += marks_as_read(marks, hints[1 + slab], waiting[1 + slab])
+    return store
