@@ -1,0 +1,30 @@
+use mathlib.Core.Path.{_≡_, refl, sym, ap, _∙_}
+use Prim.Native.Nat.{ℕ}
+use Rattle.exports.specs.Status.{statusOf, valuesIn}
+use Rattle.settings.specs.declared.Verified.{Verified}
+use Rattle.settings.specs.Outcomes.{verifiedOutcome}
+use borrow.Author.Needs.{needs}
+use Rattle.exports.proofs.leaves.wentuhoro_cookie_verify.Statement.{statement}
+use Rattle.exports.proofs.leaves.wentuhoro_cookie_verify.Tie as tie
+
+verify-requires : tie.Need-verify-requires
+verify-requires c κs = search needs
+
+enum-told : tie.Need-enum-told
+enum-told c = search needs
+
+enum-known-r : tie.Need-enum-known-r
+enum-known-r c = search needs
+
+status-requires : tie.Need-status-requires
+status-requires c κs = search needs
+
+returns : tie.Need-returns
+returns c = sym (ap (λ (x : Verified). statusOf (verifiedOutcome x)) (sym (c .before .before .verify .ensures) ∙ c .enum-told .given .1))
+
+returns-2 : tie.Need-returns-2
+returns-2 c = c .status .ensures ∙ sym (ap (λ (x : Verified). statusOf (verifiedOutcome x)) (sym (c .before .before .before .before .verify .ensures) ∙ c .before .before .r .given .1))
+
+pub wentuhoro-cookie-verify-spec : {M : Type 1} → statement M
+wentuhoro-cookie-verify-spec =
+    tie.close (tie.spec verify-requires enum-told enum-known-r status-requires returns returns-2)

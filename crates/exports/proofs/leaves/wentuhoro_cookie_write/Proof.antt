@@ -1,0 +1,50 @@
+use mathlib.Core.Path.{_≡_, refl, sym, ap, _∙_}
+use Prim.Native.Nat.{ℕ}
+use Rattle.exports.specs.Status.{statusOf, valuesIn}
+use Rattle.settings.specs.Settings.{Storing}
+use Rattle.settings.specs.declared.Stored.{Stored}
+use Rattle.settings.specs.Outcomes.{storedOutcome}
+use borrow.Author.Needs.{needs}
+use Rattle.exports.proofs.leaves.wentuhoro_cookie_write.Statement.{statement}
+use Rattle.exports.proofs.leaves.wentuhoro_cookie_write.Tie as tie
+
+serialize-requires : tie.Need-serialize-requires
+serialize-requires c κs = search needs
+
+enum-told : tie.Need-enum-told
+enum-told c = search needs
+
+enum-known-r : tie.Need-enum-known-r
+enum-known-r c = search needs
+
+status-requires : tie.Need-status-requires
+status-requires c κs = search needs
+
+same-length : tie.Need-same-length
+same-length c = search needs
+
+returns : tie.Need-returns
+returns c =
+    let e : c .before .before .before .before .serialize .result ≡ _ = ap (λ (w : Storing). w .answer) (c .before .before .before .before .serialize .ensures) in
+    (sym (ap (λ (x : Stored). statusOf (storedOutcome x)) (sym e ∙ c .enum-told .given .1)), ap (λ (w : Storing). w .cookie) (c .before .before .before .before .serialize .ensures))
+
+same-length-2 : tie.Need-same-length-2
+same-length-2 c = search needs
+
+returns-2 : tie.Need-returns-2
+returns-2 c =
+    let e : c .before .before .before .before .before .before .serialize .result ≡ _ = ap (λ (w : Storing). w .answer) (c .before .before .before .before .before .before .serialize .ensures) in
+    (c .status .ensures ∙ sym (ap (λ (x : Stored). statusOf (storedOutcome x)) (sym e ∙ c .before .before .r .given .1)), ap (λ (w : Storing). w .cookie) (c .before .before .before .before .before .before .serialize .ensures))
+
+pub wentuhoro-cookie-write-spec : {M : Type 1} → statement M
+wentuhoro-cookie-write-spec =
+    tie.close
+    (tie.spec
+    serialize-requires
+    enum-told
+    enum-known-r
+    status-requires
+    same-length
+    returns
+    same-length-2
+    returns-2)

@@ -1,0 +1,50 @@
+use mathlib.Core.Path.{_≡_, refl, sym, ap, _∙_}
+use Prim.Native.Nat.{ℕ}
+use Rattle.exports.specs.Status.{statusOf, valuesIn}
+use Rattle.frame.specs.Frame.{Writing}
+use Rattle.frame.specs.declared.Written.{Written}
+use Rattle.frame.specs.Outcomes.{writtenOutcome}
+use borrow.Author.Needs.{needs}
+use Rattle.exports.proofs.leaves.wentuhoro_frame_write.Statement.{statement}
+use Rattle.exports.proofs.leaves.wentuhoro_frame_write.Tie as tie
+
+write-requires : tie.Need-write-requires
+write-requires c κs = search needs
+
+enum-told : tie.Need-enum-told
+enum-told c = search needs
+
+enum-known-r : tie.Need-enum-known-r
+enum-known-r c = search needs
+
+status-requires : tie.Need-status-requires
+status-requires c κs = search needs
+
+same-length : tie.Need-same-length
+same-length c = search needs
+
+returns : tie.Need-returns
+returns c =
+    let e : c .before .before .before .before .write .result ≡ _ = ap (λ (w : Writing). w .answer) (c .before .before .before .before .write .ensures) in
+    (sym (ap (λ (x : Written). statusOf (writtenOutcome x)) (sym e ∙ c .enum-told .given .1)), ap (λ (w : Writing). w .slot) (c .before .before .before .before .write .ensures))
+
+same-length-2 : tie.Need-same-length-2
+same-length-2 c = search needs
+
+returns-2 : tie.Need-returns-2
+returns-2 c =
+    let e : c .before .before .before .before .before .before .write .result ≡ _ = ap (λ (w : Writing). w .answer) (c .before .before .before .before .before .before .write .ensures) in
+    (c .status .ensures ∙ sym (ap (λ (x : Written). statusOf (writtenOutcome x)) (sym e ∙ c .before .before .r .given .1)), ap (λ (w : Writing). w .slot) (c .before .before .before .before .before .before .write .ensures))
+
+pub wentuhoro-frame-write-spec : {M : Type 1} → statement M
+wentuhoro-frame-write-spec =
+    tie.close
+    (tie.spec
+    write-requires
+    enum-told
+    enum-known-r
+    status-requires
+    same-length
+    returns
+    same-length-2
+    returns-2)

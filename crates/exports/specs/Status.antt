@@ -1,0 +1,35 @@
+-- How an answer passes to C and Rust: one number, and values in a lent slice. Assumes nothing.
+use mathlib.Core.Bool.{cond}
+use mathlib.Core.List.{List, [], _∷_}
+use Prim.Native.Nat.{ℕ, _+_, _*_, _%_, _^_}
+use lib.Dec.{eqb}
+use lib.ListN.{length}
+use Rattle.refusal.specs.Refusals.{wrongShape}
+use Rattle.refusal.specs.Outcomes.{Outcome, granted, refusedWith, refusedAs}
+use Rattle.address.specs.declared.Unpacked.{Unpacked}
+use Rattle.address.specs.declared.Unpacked.the-variants as U
+
+-- 0 where granted, else the refusal's number plus 256 times its index
+abbrev pub statusOf : Outcome → ℕ
+statusOf (granted values) = 0
+statusOf (refusedWith number index) = (number + 256 * index) % 2 ^ 64
+
+-- the lent slice afterwards: the values where granted, as it was on a refusal
+abbrev pub valuesIn : Outcome → List ℕ → List ℕ
+valuesIn (granted values) lent = values
+valuesIn (refusedWith number index) lent = lent
+
+pub record Exported : Type 0 where
+  pub status : ℕ
+  pub lent : List ℕ
+
+-- the answer of a call that is lent a slice for n values: another length is refused first
+unfoldable pub exported : ℕ → Outcome → List ℕ → Exported
+exported n o lent =
+    cond (eqb (length lent) n) (record { status = statusOf o; lent = valuesIn o lent }) (record { status = wrongShape; lent = lent })
+
+-- an unpacked location in three values: 1, slab and slot, or three zeros for no object
+abbrev pub unpackedInThree : Unpacked → Outcome
+unpackedInThree (U.At a) = granted (1 ∷ a .slab ∷ a .slot ∷ [])
+unpackedInThree U.NoObject = granted (0 ∷ 0 ∷ 0 ∷ [])
+unpackedInThree (U.Refused r) = refusedAs r

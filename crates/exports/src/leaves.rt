@@ -1,0 +1,174 @@
+// Classes, checks, frames, cookies and addresses.
+ghost use mathlib.Core.Path.{_≡_};
+ghost use mathlib.Core.List.{List};
+ghost use Prim.Native.Nat.{ℕ};
+ghost use Rattle.crc32.specs.Crc32.{crcOver, crc32};
+ghost use Rattle.sizes.specs.Sizes.{classOf};
+ghost use Rattle.sizes.specs.Outcomes.{classOutcome};
+ghost use Rattle.frame.specs.Frame.{writing, verdictOf};
+ghost use Rattle.frame.specs.Outcomes.{writtenOutcome, verdictOutcome};
+ghost use Rattle.settings.specs.Settings.{storing, settingsOf, agreement};
+ghost use Rattle.settings.specs.Outcomes.{storedOutcome, persistentSettingsOutcome, verifiedOutcome};
+ghost use Rattle.address.specs.Address.{packed, unpacked};
+ghost use Rattle.address.specs.Outcomes.{packedOutcome};
+ghost use Rattle.exports.specs.Status.{statusOf, Exported, exported, unpackedInThree};
+use crate::status::WRONG_LENGTH;
+use crate::status::status;
+use address::Packed;
+use address::SlabAddress;
+use address::Unpacked;
+use frame::Slab;
+use frame::Verdict;
+use frame::Written;
+use settings::PersistentSettings;
+use settings::Stored;
+use settings::Verified;
+use sizes::Class;
+
+// The slab for an object of n bytes. One value.
+#[no_mangle]
+pub extern "C" fn wentuhoro_class(n: u64, slab: &mut [u64]) -> u64
+    ensures { λ r. ⌜ _≡_ {A = Exported} (record { status = r; lent = now (slab .exit) }) (exported 1 (classOutcome (classOf n)) (now (slab .entry))) ⌝ }
+{
+    if slab.len() != 1 {
+        return WRONG_LENGTH;
+    }
+    match sizes::slab_for_size(n) {
+        Class::Slab(k) => {
+            slab[0] = k as u64;
+            0
+        }
+        Class::Refused(r) => status(r),
+    }
+}
+
+// The CRC-32 of ISO 3309.
+#[no_mangle]
+pub extern "C" fn wentuhoro_crc32(bytes: &[u8]) -> u32
+    ensures { λ r. ⌜ r ≡ crc32 (now (bytes .entry)) ⌝ }
+{
+    crc32::hash(bytes)
+}
+
+// The register after more bytes; it starts at FFFFFFFF and is complemented at the end.
+#[no_mangle]
+pub extern "C" fn wentuhoro_crc32_update(register: u32, bytes: &[u8]) -> u32
+    ensures { λ r. ⌜ r ≡ crcOver register (now (bytes .entry)) ⌝ }
+{
+    crc32::update(register, bytes)
+}
+
+// Writes an object into a slot.
+#[no_mangle]
+pub extern "C" fn wentuhoro_frame_write(slot: &mut [u8], object: &[u8]) -> u64
+    ensures { λ r. ⌜ (r ≡ statusOf (writtenOutcome (writing (now (slot .entry)) (now (object .entry)) .answer))) × (now (slot .exit) ≡ writing (now (slot .entry)) (now (object .entry)) .slot) ⌝ }
+{
+    match Slab::write(slot, object) {
+        Written::Done => 0,
+        Written::Refused(r) => status(r),
+    }
+}
+
+// The length of the object in a slot: the slot's own first bytes. One value.
+#[no_mangle]
+pub extern "C" fn wentuhoro_frame_read(slot: &[u8], length: &mut [u64]) -> u64
+    ensures { λ r. ⌜ _≡_ {A = Exported} (record { status = r; lent = now (length .exit) }) (exported 1 (verdictOutcome (verdictOf (now (slot .entry)))) (now (length .entry))) ⌝ }
+{
+    if length.len() != 1 {
+        return WRONG_LENGTH;
+    }
+    match Slab::verdict(slot) {
+        Verdict::Object(n) => {
+            length[0] = n as u64;
+            0
+        }
+        Verdict::Refused(r) => status(r),
+    }
+}
+
+// Writes a settings cookie of 64 bytes.
+#[no_mangle]
+pub extern "C" fn wentuhoro_cookie_write(leaf_fanout: u64, cookie: &mut [u8]) -> u64
+    ensures { λ r. ⌜ (r ≡ statusOf (storedOutcome (storing «leaf_fanout» (now (cookie .entry)) .answer))) × (now (cookie .exit) ≡ storing «leaf_fanout» (now (cookie .entry)) .cookie) ⌝ }
+{
+    match PersistentSettings::serialize(leaf_fanout, cookie) {
+        Stored::Done => 0,
+        Stored::Refused(r) => status(r),
+    }
+}
+
+// The fanout in a settings cookie. One value.
+#[no_mangle]
+pub extern "C" fn wentuhoro_cookie_read(cookie: &[u8], leaf_fanout: &mut [u64]) -> u64
+    ensures { λ r. ⌜ _≡_ {A = Exported} (record { status = r; lent = now («leaf_fanout» .exit) }) (exported 1 (persistentSettingsOutcome (settingsOf (now (cookie .entry)))) (now («leaf_fanout» .entry))) ⌝ }
+{
+    if leaf_fanout.len() != 1 {
+        return WRONG_LENGTH;
+    }
+    match PersistentSettings::deserialize(cookie) {
+        PersistentSettings::V1 { leaf_fanout: found } => {
+            leaf_fanout[0] = found;
+            0
+        }
+        PersistentSettings::Refused(r) => status(r),
+    }
+}
+
+// Whether a settings cookie was written with this fanout.
+#[no_mangle]
+pub extern "C" fn wentuhoro_cookie_verify(cookie: &[u8], leaf_fanout: u64) -> u64
+    ensures { λ r. ⌜ r ≡ statusOf (verifiedOutcome (agreement «leaf_fanout» (settingsOf (now (cookie .entry))))) ⌝ }
+{
+    match PersistentSettings::verify(cookie, leaf_fanout) {
+        Verified::Agrees => 0,
+        Verified::Refused(r) => status(r),
+    }
+}
+
+// The packed location of a slot. One value.
+#[no_mangle]
+pub extern "C" fn wentuhoro_pack(
+    slots: usize,
+    slab: usize,
+    slot: usize,
+    location: &mut [u64],
+) -> u64
+    ensures { λ r. ⌜ _≡_ {A = Exported} (record { status = r; lent = now (location .exit) }) (exported 1 (packedOutcome (packed slots (record { slab = slab; slot = slot }))) (now (location .entry))) ⌝ }
+{
+    if location.len() != 1 {
+        return WRONG_LENGTH;
+    }
+    let address = SlabAddress { slab, slot };
+    match address.pack(slots) {
+        Packed::Location(l) => {
+            location[0] = l;
+            0
+        }
+        Packed::Refused(r) => status(r),
+    }
+}
+
+// The slot of a packed location. Three values: 1, slab, slot; or three zeros for no object.
+#[no_mangle]
+pub extern "C" fn wentuhoro_unpack(slots: usize, location: u64, address: &mut [u64]) -> u64
+    ensures { λ r. ⌜ _≡_ {A = Exported} (record { status = r; lent = now (address .exit) }) (exported 3 (unpackedInThree (unpacked slots location)) (now (address .entry))) ⌝ }
+{
+    if address.len() != 3 {
+        return WRONG_LENGTH;
+    }
+    match SlabAddress::unpack(slots, location) {
+        Unpacked::At(a) => {
+            address[0] = 1;
+            address[1] = a.slab as u64;
+            address[2] = a.slot as u64;
+            0
+        }
+        Unpacked::NoObject => {
+            address[0] = 0;
+            address[1] = 0;
+            address[2] = 0;
+            0
+        }
+        Unpacked::Refused(r) => status(r),
+    }
+}

@@ -1,0 +1,17 @@
+// The library's calls for C and Rust: numbers and slices alone.
+//
+// One convention. Every call answers a status: 0 where it is granted, else the refusal's number plus 256 times its index. Values go to a
+// lent slice of exactly as many words, which is as it was on a refusal; a slice of another length is refused with 1, index 0.
+mod leaves;
+mod status;
+
+pub use leaves::wentuhoro_class;
+pub use leaves::wentuhoro_cookie_read;
+pub use leaves::wentuhoro_cookie_verify;
+pub use leaves::wentuhoro_cookie_write;
+pub use leaves::wentuhoro_crc32;
+pub use leaves::wentuhoro_crc32_update;
+pub use leaves::wentuhoro_frame_read;
+pub use leaves::wentuhoro_frame_write;
+pub use leaves::wentuhoro_pack;
+pub use leaves::wentuhoro_unpack;
