@@ -3,8 +3,9 @@
 use mathlib.Core.Path.{_≡_, refl, sym, ap, ap₂, _∙_, subst}
 use mathlib.Core.Bool.{Bool, true, false}
 use Prim.Native.Nat.{ℕ, zero, suc, _+_, _*_, _/_, _%_, _^_, _<_}
-use native.Mathlib.Nat.{mod-lt, zero-mul, one-mul, add-zero, pow-suc}
+use native.Mathlib.Nat.{mod-lt, zero-mul, one-mul, add-zero, pow-suc, not-suc-le-zero}
 use native.Mathlib.Omega.{arith}
+use borrow.Author.Count.{below-more}
 use lib.Dec.{T, eqb, eqb→eq, eqb-refl}
 use lib.Arith.{lt-one}
 use lib.Pow.{pow-pos, split, shr-lt}
@@ -12,7 +13,7 @@ use lib.Bits.{bitXor, xor-shifted, xor-block, xor-shr, xor-mod}
 use Rattle.crc32.specs.Crc32.{step, steps}
 use Rattle.crc32.specs.Fold.{up, over, fifth, one, two, four}
 use Rattle.crc32.proofs.Xor.{xor-swap}
-use Rattle.crc32.proofs.Linear.{steps-xor, step-shift}
+use Rattle.crc32.proofs.Linear.{step-xor, steps-xor, step-shift}
 
 pub record Lin (f : ℕ → ℕ) : Type 0 where
   pub law : (a b : ℕ) → f (bitXor a b) ≡ bitXor (f a) (f b)
@@ -122,7 +123,7 @@ agree f g lf lg (suc n) t x l =
     (agree f g lf lg n r (x % 2 ^ n) (mod-lt x (pow-pos n)))
     ∙ sym (lg .law h (x % 2 ^ n)))
 
--- ---- a map that steps as its argument does needs the test of steps at one power only
+-- ---- maps that step as their argument does, from power to power, need the test at the highest power only
 both-pass : (a b : Bool) → T a → T b → T (also a b)
 both-pass true b t u = u
 both-pass false b t u = t
@@ -130,27 +131,49 @@ both-pass false b t u = t
 passes : (a b : ℕ) → a ≡ b → T (eqb a b)
 passes a b e = subst (λ (x : ℕ). T (eqb a x)) e (eqb-refl a)
 
+pub record Down (k : ℕ) (f : ℕ → ℕ) : Type 0 where
+  pub law : (j : ℕ) → j < k → step (f (2 ^ suc j)) ≡ f (2 ^ j)
+
+half : (k : ℕ) → step (2 ^ suc k) ≡ 2 ^ k
+half k = ap step (pow-suc 2 k) ∙ step-shift (2 ^ k)
+
 steps-step : (n x : ℕ) → steps n (step x) ≡ step (steps n x)
 unfolding steps
 steps-step zero x = refl
 steps-step (suc n) x = steps-step n (step x)
 
+pub down-id : {k : ℕ} → Down k (λ x. x)
+down-id = record { law = λ j l. half j }
+
+pub down-after : (n : ℕ) {k : ℕ} {f : ℕ → ℕ} → Down k f → Down k (λ x. steps n (f x))
+down-after n {k} {f} d = record { law = λ j l. sym (steps-step n (f (2 ^ suc j))) ∙ ap (steps n) (d .law j l) }
+
+pub down-both : {k : ℕ} {f g : ℕ → ℕ} → Down k f → Down k g → Down k (λ x. bitXor (f x) (g x))
+down-both {k} {f} {g} d e = record { law = λ j l. step-xor (f (2 ^ suc j)) (g (2 ^ suc j)) ∙ ap₂ bitXor (d .law j l) (e .law j l) }
+
+-- by computing
 unfoldable pub falls : (ℕ → ℕ) → ℕ → Bool
-falls h zero = true
-falls h (suc k) = also (eqb (step (h (2 ^ suc k))) (h (2 ^ k))) (falls h k)
+falls f zero = true
+falls f (suc k) = also (eqb (step (f (2 ^ suc k))) (f (2 ^ k))) (falls f k)
 
-half : (k : ℕ) → step (2 ^ suc k) ≡ 2 ^ k
-half k = ap step (pow-suc 2 k) ∙ step-shift (2 ^ k)
+fallen : (f : ℕ → ℕ) (k : ℕ) → T (falls f k) → (j : ℕ) → j < k → step (f (2 ^ suc j)) ≡ f (2 ^ j)
+unfolding falls
+fallen f zero t j l = absurd (not-suc-le-zero l)
+fallen f (suc k) t j l =
+    let a = eqb (step (f (2 ^ suc k))) (f (2 ^ k)) in
+    below-more (λ (j : ℕ). step (f (2 ^ suc j)) ≡ f (2 ^ j)) k
+    (fallen f k (also-right a (falls f k) t))
+    (eqb→eq (step (f (2 ^ suc k))) (f (2 ^ k)) (also-left a (falls f k) t))
+    j
+    (omega arith)
 
-pub fall : (n m : ℕ) (h : ℕ → ℕ) (k : ℕ) → steps n 0 ≡ steps m (h 0) → T (falls h k) → steps n (2 ^ k) ≡ steps m (h (2 ^ k))
-    → T (same (steps n) (λ y. steps m (h y)) (suc k))
-unfolding same falls
-fall n m h zero z t e = both-pass (eqb (steps n 1) (steps m (h 1))) (eqb (steps n 0) (steps m (h 0))) (passes (steps n 1) (steps m (h 1)) e) (passes (steps n 0) (steps m (h 0)) z)
-fall n m h (suc k) z t e =
-    let a = step (h (2 ^ suc k)) in
-    let d : a ≡ h (2 ^ k) = eqb→eq a (h (2 ^ k)) (also-left (eqb a (h (2 ^ k))) (falls h k) t) in
-    let f : steps n (2 ^ k) ≡ steps m (h (2 ^ k)) =
-    ap (steps n) (sym (half k)) ∙ steps-step n (2 ^ suc k) ∙ ap step e ∙ sym (steps-step m (h (2 ^ suc k))) ∙ ap (steps m) d in
-    both-pass (eqb (steps n (2 ^ suc k)) (steps m (h (2 ^ suc k)))) (same (steps n) (λ y. steps m (h y)) (suc k))
-    (passes (steps n (2 ^ suc k)) (steps m (h (2 ^ suc k))) e)
-    (fall n m h k z (also-right (eqb a (h (2 ^ k))) (falls h k) t) f)
+pub down-test : (k : ℕ) (f : ℕ → ℕ) → T (falls f k) → Down k f
+down-test k f t = record { law = fallen f k t }
+
+pub descend : (f g : ℕ → ℕ) (k : ℕ) → Down k f → Down k g → f 0 ≡ g 0 → f (2 ^ k) ≡ g (2 ^ k) → T (same f g (suc k))
+unfolding same
+descend f g zero d e z t = both-pass (eqb (f 1) (g 1)) (eqb (f 0) (g 0)) (passes (f 1) (g 1) t) (passes (f 0) (g 0) z)
+descend f g (suc k) d e z t =
+    both-pass (eqb (f (2 ^ suc k)) (g (2 ^ suc k))) (same f g (suc k)) (passes (f (2 ^ suc k)) (g (2 ^ suc k)) t)
+    (descend f g k (record { law = λ j l. d .law j (omega arith) }) (record { law = λ j l. e .law j (omega arith) }) z
+    (sym (d .law k (omega arith)) ∙ ap step t ∙ e .law k (omega arith)))

@@ -4,3 +4,9 @@ pub mod Agree
 pub mod Turns
 pub mod Left
 pub mod Laws
+pub mod Relation
+pub mod Bytes
+pub mod Pending
+pub mod Copy
+pub mod Away
+pub mod Past

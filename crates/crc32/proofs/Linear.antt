@@ -6,9 +6,10 @@ use mathlib.Core.List.{List, [], _∷_}
 use Prim.Native.Nat.{ℕ, zero, suc, _+_, _*_, _/_, _%_, _^_, _<_}
 use native.Mathlib.Nat.{mod-lt, zero-lt-suc, mul-mod-left, mul-div-cancel, mul-assoc, pow-suc, suc-add, zero-add}
 use native.Mathlib.Omega.{arith}
-use lib.ListN.{length, getD}
+use lib.ListN.{length}
 use lib.Bits.{bitXor, differ, xor-comm, xor-shifted, xor-lt, xor-zero-r}
 use Rattle.little_endian.specs.LittleEndian.{word}
+use Rattle.little_endian.proofs.Laws.{Bytes}
 use Rattle.crc32.specs.Crc32.{takeIn, step, steps, crcOver}
 use Rattle.crc32.proofs.Xor.{xor-half, xor-odd, xor-assoc, xor-right-comm, xor-twice}
 
@@ -53,10 +54,6 @@ steps-add (suc m) n c = ap (λ (k : ℕ). steps k c) (suc-add m n) ∙ steps-add
 pub steps-zero : (c : ℕ) → steps 0 c ≡ c
 unfolding steps
 steps-zero c = refl
-
--- each element is a byte, as a slice's rule gives it
-abbrev pub Bytes : List ℕ → Type 0
-Bytes bs = (j : ℕ) → getD bs j 0 < 2 ^ 8
 
 -- the register after the bytes
 pub over-word : (bs : List ℕ) → Bytes bs → (c : ℕ) → crcOver c bs ≡ steps (8 * length bs) (bitXor c (word bs))

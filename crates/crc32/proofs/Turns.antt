@@ -9,7 +9,7 @@ use Rattle.crc32.specs.Crc32.{step, steps}
 use Rattle.crc32.specs.Fold.{up, over, num, Turn, fifth, one, two, four}
 use Rattle.crc32.proofs.Xor.{xor-assoc}
 use Rattle.crc32.proofs.Linear.{steps-xor, steps-add, steps-shift, steps-zero}
-use Rattle.crc32.proofs.Agree.{Lin, id, lup, down, low, both, after, above, over-xor, lin-steps, lin-fifth, lin-one, lin-two, lin-four, same, agree, falls, fall}
+use Rattle.crc32.proofs.Agree.{Lin, id, lup, down, low, both, after, above, over-xor, lin-steps, lin-fifth, lin-one, lin-two, lin-four, same, agree, falls, down-id, down-after, down-test, descend}
 
 -- the register after a word
 abbrev folded : ℕ → ℕ
@@ -19,18 +19,18 @@ pub folds : (w : ℕ) → w < 2 ^ 64 → folded w ≡ steps 64 w
 unfolding same steps step one two four
 folds = agree folded (steps 64) (down 32 (after lin-one (down 32 (after lin-one (after lin-two lin-four))))) (lin-steps 64) 64 tt
 
--- and after a byte
-pub byte-fold : (x : ℕ) → x < 2 ^ 32 → bitXor (x / 2 ^ 8) (one (bitXor x (up 6 x) % 2 ^ 8) / 2 ^ 8) ≡ steps 8 x
-unfolding same steps step one
+-- and after a byte, by its halves
+pub byte-fold : (x : ℕ) → x < 2 ^ 32 → bitXor (x / 2 ^ 8) (bitXor (steps 8 (x % 2 ^ 4)) (steps 4 (x / 2 ^ 4 % 2 ^ 4))) ≡ steps 8 x
+unfolding same steps step
 byte-fold =
-    agree (λ x. bitXor (x / 2 ^ 8) (one (bitXor x (up 6 x) % 2 ^ 8) / 2 ^ 8)) (steps 8)
-    (both (down 8 id) (down 8 (after lin-one (low 8 (both id (lup 6 id))))))
+    agree (λ x. bitXor (x / 2 ^ 8) (bitXor (steps 8 (x % 2 ^ 4)) (steps 4 (x / 2 ^ 4 % 2 ^ 4)))) (steps 8)
+    (both (down 8 id) (both (after (lin-steps 8) (low 4 id)) (after (lin-steps 4) (low 4 (down 4 id)))))
     (lin-steps 8)
     32
     tt
 
 -- where x^300 puts a word
-unfoldable pub farOf : ℕ → ℕ
+unfoldable farOf : ℕ → ℕ
 farOf y = num 0 (bitXor (up 17 y) (up 55 y)) (bitXor (bitXor (y / 2 ^ 47) (y / 2 ^ 9)) (up 19 y)) (bitXor (y / 2 ^ 45) (up 44 y)) (y / 2 ^ 20)
 
 lin-zero : Lin (λ x. 0)
@@ -56,10 +56,44 @@ unfolding falls step farOf num over
 far-falls = tt
 
 far-word : (y : ℕ) → y < 2 ^ 64 → steps 332 y ≡ steps 268 (farOf y)
-far-word = agree (steps 332) (λ y. steps 268 (farOf y)) (lin-steps 332) (after (lin-steps 268) lin-far) 64 (fall 332 268 farOf 63 far-zero far-falls far-top)
+far-word = agree (steps 332) (λ y. steps 268 (farOf y)) (lin-steps 332) (after (lin-steps 268) lin-far) 64 (descend (steps 332) (λ y. steps 268 (farOf y)) 63 (down-after 332 down-id) (down-after 268 (down-test 63 farOf far-falls)) far-zero far-top)
+
+-- where x^135 does
+unfoldable midOf : ℕ → ℕ
+midOf y =
+    num (bitXor (bitXor (bitXor (up 7 y) (up 16 y)) (up 39 y)) (bitXor (bitXor (up 55 y) (up 57 y)) (up 59 y)))
+    (bitXor
+    (bitXor (bitXor (bitXor (y / 2 ^ 57) (y / 2 ^ 48)) (y / 2 ^ 25)) (bitXor (bitXor (y / 2 ^ 9) (y / 2 ^ 7)) (y / 2 ^ 5)))
+    (up 7 y))
+    (y / 2 ^ 57)
+    0
+    0
+
+lin-mid : Lin midOf
+unfolding midOf num
+lin-mid =
+    above (both (both (both (lup 7 id) (lup 16 id)) (lup 39 id)) (both (both (lup 55 id) (lup 57 id)) (lup 59 id)))
+    (above
+    (both (both (both (both (down 57 id) (down 48 id)) (down 25 id)) (both (both (down 9 id) (down 7 id)) (down 5 id))) (lup 7 id))
+    (above (down 57 id) (above lin-zero lin-zero)))
+
+mid-zero : steps 192 0 ≡ steps 128 (midOf 0)
+unfolding steps step midOf num over
+mid-zero = refl
+
+mid-top : steps 192 (2 ^ 63) ≡ steps 128 (midOf (2 ^ 63))
+unfolding steps step midOf num over
+mid-top = refl
+
+mid-falls : T (falls midOf 63)
+unfolding falls step midOf num over
+mid-falls = tt
+
+mid-word : (y : ℕ) → y < 2 ^ 64 → steps 192 y ≡ steps 128 (midOf y)
+mid-word = agree (steps 192) (λ y. steps 128 (midOf y)) (lin-steps 192) (after (lin-steps 128) lin-mid) 64 (descend (steps 192) (λ y. steps 128 (midOf y)) 63 (down-after 192 down-id) (down-after 128 (down-test 63 midOf mid-falls)) mid-zero mid-top)
 
 -- and x^96
-unfoldable pub nearOf : ℕ → ℕ
+unfoldable nearOf : ℕ → ℕ
 nearOf y = num (fifth y) (fifth (y / 2 ^ 32) / 2 ^ 32) 0 0 0
 
 lin-near : Lin nearOf
@@ -79,7 +113,7 @@ unfolding falls step nearOf num over fifth
 near-falls = tt
 
 near-word : (y : ℕ) → y < 2 ^ 64 → steps 128 y ≡ steps 64 (nearOf y)
-near-word = agree (steps 128) (λ y. steps 64 (nearOf y)) (lin-steps 128) (after (lin-steps 64) lin-near) 64 (fall 128 64 nearOf 63 near-zero near-falls near-top)
+near-word = agree (steps 128) (λ y. steps 64 (nearOf y)) (lin-steps 128) (after (lin-steps 64) lin-near) 64 (descend (steps 128) (λ y. steps 64 (nearOf y)) 63 (down-after 128 down-id) (down-after 64 (down-test 63 nearOf near-falls)) near-zero near-top)
 
 num-xor : (a b c d e p q r s t : ℕ)
     → bitXor (num a b c d e) (num p q r s t) ≡ num (bitXor a p) (bitXor b q) (bitXor c r) (bitXor d s) (bitXor e t)
@@ -124,6 +158,29 @@ module _ (a b c d e w : ℕ) (l : w < 2 ^ 64) (m : a < 2 ^ 64) where
       subst (Turn 268 w (num a b c d e))
       (num-xor b c d e 0 0 f g h (y / 2 ^ 20) ∙ ap (λ (x : ℕ). num x (bitXor c f) (bitXor d g) (bitXor e h) (y / 2 ^ 20)) (xor-zero-r b))
       (turned 268 a b c d e w (farOf y) (far-word y (xor-lt 64 w a l m)))
+
+  pub mid-turn : Turn 128 w (num a b c d e)
+      (num
+      (bitXor b
+      (bitXor (bitXor (bitXor (up 7 (bitXor w a)) (up 16 (bitXor w a))) (up 39 (bitXor w a)))
+      (bitXor (bitXor (up 55 (bitXor w a)) (up 57 (bitXor w a))) (up 59 (bitXor w a)))))
+      (bitXor c
+      (bitXor
+      (bitXor (bitXor (bitXor (bitXor w a / 2 ^ 57) (bitXor w a / 2 ^ 48)) (bitXor w a / 2 ^ 25))
+      (bitXor (bitXor (bitXor w a / 2 ^ 9) (bitXor w a / 2 ^ 7)) (bitXor w a / 2 ^ 5)))
+      (up 7 (bitXor w a))))
+      (bitXor d (bitXor w a / 2 ^ 57))
+      e
+      0)
+  unfolding midOf
+  mid-turn =
+      let y = bitXor w a in
+      let f = bitXor (bitXor (bitXor (up 7 y) (up 16 y)) (up 39 y)) (bitXor (bitXor (up 55 y) (up 57 y)) (up 59 y)) in
+      let g = bitXor (bitXor (bitXor (bitXor (y / 2 ^ 57) (y / 2 ^ 48)) (y / 2 ^ 25)) (bitXor (bitXor (y / 2 ^ 9) (y / 2 ^ 7)) (y / 2 ^ 5))) (up 7 y) in
+      let h = y / 2 ^ 57 in
+      subst (Turn 128 w (num a b c d e))
+      (num-xor b c d e 0 f g h 0 0 ∙ ap (λ (x : ℕ). num (bitXor b f) (bitXor c g) (bitXor d h) x 0) (xor-zero-r e))
+      (turned 128 a b c d e w (midOf y) (mid-word y (xor-lt 64 w a l m)))
 
   pub near-turn : Turn 64 w (num a b c d e)
       (num (bitXor b (fifth (bitXor w a))) (bitXor c (fifth (bitXor w a / 2 ^ 32) / 2 ^ 32)) d e 0)

@@ -9,7 +9,8 @@ use lib.Bits.{bitXor}
 use lib.ListN.{length, drop}
 use Rattle.little_endian.specs.LittleEndian.{word}
 use Rattle.crc32.specs.Crc32.{steps}
-use Rattle.crc32.specs.declared.Pend.{Pend}
+use Rattle.crc32.specs.declared.words.Past.{Past}
+use Rattle.crc32.specs.declared.words.Pend.{Pend}
 
 -- the code's x << k
 abbrev pub up : ℕ → ℕ → ℕ
@@ -25,6 +26,17 @@ num a b c d e = over a (over b (over c (over d e)))
 
 abbrev pub held : Pend → ℕ
 held z = num (z .a) (z .b) (z .c) (z .d) (z .e)
+
+-- what the words d, c, b and a, put off one after the other, leave on the second word after a
+unfoldable pub pulled : ℕ → ℕ → ℕ → ℕ → ℕ
+pulled a b c d = bitXor (bitXor (bitXor (bitXor (up 17 a) (b / 2 ^ 47)) (up 44 c)) (bitXor (bitXor (up 55 a) (b / 2 ^ 9)) (up 19 b))) (bitXor (c / 2 ^ 45) (d / 2 ^ 20))
+
+-- what is pending after the words t, s, r, q and p
+unfoldable pub pastOf : ℕ → ℕ → ℕ → ℕ → ℕ → ℕ
+pastOf p q r s t = num (pulled q r s t) (pulled p q r s) (pulled 0 p q r) (pulled 0 0 p q) (pulled 0 0 0 p)
+
+abbrev pub past : Past → ℕ
+past h = pastOf (h .p) (h .q) (h .r) (h .s) (h .t)
 
 -- a word w is read with z pending, and r is pending after it, where at least k bits come after w
 unfoldable pub Turn : ℕ → ℕ → ℕ → ℕ → Type 0

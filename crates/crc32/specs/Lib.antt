@@ -1,2 +1,3 @@
 pub mod Crc32
 pub mod Fold
+pub mod Sparse

@@ -1,0 +1,423 @@
+// The register after bytes, eight a turn, in registers.
+//
+// A word that was read is not divided: it is put off, to words that are still to come. Five words are pending at most. Where many words come
+// they are put off far, by few shifts; near the end by more, and less far; the last is divided.
+ghost use mathlib.Core.Path.{_≡_};
+ghost use Prim.Native.Nat.{ℕ, _+_, _-_, _*_, _%_, _<_, _≤_, _^_};
+ghost use lib.Bits.{bitXor};
+ghost use lib.ListN.{length, drop};
+ghost use Rattle.little_endian.specs.LittleEndian.{word};
+ghost use Rattle.crc32.specs.Crc32.{steps, crcOver};
+ghost use Rattle.crc32.specs.Fold.{held, past, pulled, over, left, Turn, fifth, one, two, four};
+use crate::load::load;
+use crate::load::wide;
+
+// What is still to be taken into the bytes to come, the lowest word first.
+struct Pend {
+    a: u64,
+    b: u64,
+    c: u64,
+    d: u64,
+    e: u64,
+}
+
+// x^300 + x^155 + x^117 + x^89 + 1 is a multiple of the polynomial: a word is put off 145, 183, 211 and 300 bits, where 268 bits come after.
+fn far(z: Pend, w: u64) -> Pend
+    ensures { λ r. ⌜ Turn 268 w (held z) (held r) ⌝ }
+{
+    let y = w ^ z.a;
+    Pend {
+        a: z.b,
+        b: z.c ^ ((y << 17) ^ (y << 55)),
+        c: z.d ^ (((y >> 47) ^ (y >> 9)) ^ (y << 19)),
+        d: z.e ^ ((y >> 45) ^ (y << 44)),
+        e: y >> 20,
+    }
+}
+
+// What is left of x^96.
+fn times_fifth(w: u64) -> u64
+    ensures { λ r. ⌜ r ≡ fifth w ⌝ }
+{
+    let u = w ^ (w << 1);
+    let v = w ^ (w << 2);
+    (u << 1) ^ (u << 3) ^ (w << 7) ^ ((v ^ (v << 4)) << 17) ^ ((u ^ (u << 4)) << 26)
+}
+
+// At least one word comes after.
+fn near(z: Pend, w: u64) -> Pend
+    ensures { λ r. ⌜ Turn 64 w (held z) (held r) ⌝ }
+{
+    let y = w ^ z.a;
+    let f = times_fifth(y);
+    let g = times_fifth(y >> 32) >> 32;
+    Pend {
+        a: z.b ^ f,
+        b: z.c ^ g,
+        c: z.d,
+        d: z.e,
+        e: 0,
+    }
+}
+
+// Another: 71, 80, 103, 119, 121, 123 and 135 bits, where two words come after.
+fn mid(z: Pend, w: u64) -> Pend
+    ensures { λ r. ⌜ Turn 128 w (held z) (held r) ⌝ }
+{
+    let y = w ^ z.a;
+    Pend {
+        a: z.b ^ (((y << 7) ^ (y << 16) ^ (y << 39)) ^ ((y << 55) ^ (y << 57) ^ (y << 59))),
+        b: z.c
+            ^ (((y >> 57) ^ (y >> 48) ^ (y >> 25)) ^ ((y >> 9) ^ (y >> 7) ^ (y >> 5)) ^ (y << 7)),
+        c: z.d ^ (y >> 57),
+        d: z.e,
+        e: 0,
+    }
+}
+
+// The polynomial, and what it is at x^2 and x^4.
+fn times_one(w: u64) -> u64
+    ensures { λ r. ⌜ r ≡ one w ⌝ }
+{
+    let u = w ^ (w << 1);
+    let t = w ^ (w << 6);
+    t ^ (t << 16) ^ (u << 9) ^ (u << 20) ^ ((u ^ (u << 3)) << 24) ^ (u << 30) ^ (w << 32)
+}
+
+fn times_two(w: u64) -> u64
+    ensures { λ r. ⌜ r ≡ two w ⌝ }
+{
+    let u = w ^ (w << 2);
+    let t = w ^ (w << 12);
+    t ^ (t << 32) ^ (u << 18) ^ (u << 40) ^ ((u ^ (u << 6)) << 48) ^ (u << 60)
+}
+
+fn times_four(w: u64) -> u64
+    ensures { λ r. ⌜ r ≡ four w ⌝ }
+{
+    let t = w ^ (w << 48);
+    t ^ (t << 24) ^ (t << 36) ^ (t << 40)
+}
+
+// The register after a word: the word over the polynomial, as a power series, and the polynomial times the end of that.
+fn fold(w: u64) -> u64
+    ensures { λ r. ⌜ r ≡ steps 64 w ⌝ }
+{
+    times_one(times_one(times_two(times_four(w))) >> 32) >> 32
+}
+
+// No word comes after.
+fn last(z: Pend, w: u64) -> Pend
+    ensures { λ r. ⌜ Turn 0 w (held z) (held r) ⌝ }
+{
+    let f = fold(w ^ z.a);
+    Pend {
+        a: z.b ^ f,
+        b: z.c,
+        c: z.d,
+        d: z.e,
+        e: 0,
+    }
+}
+
+// Four and eight steps of half a byte. LLVM keeps the answers of a `match` as a table in read-only memory.
+fn half(d: u64) -> u64
+    requires { ⌜ d < 16 ⌝ }
+    ensures { λ r. ⌜ r ≡ steps 4 d ⌝ }
+{
+    match d {
+        0 => 0,
+        1 => 0x1DB7_1064,
+        2 => 0x3B6E_20C8,
+        3 => 0x26D9_30AC,
+        4 => 0x76DC_4190,
+        5 => 0x6B6B_51F4,
+        6 => 0x4DB2_6158,
+        7 => 0x5005_713C,
+        8 => 0xEDB8_8320,
+        9 => 0xF00F_9344,
+        10 => 0xD6D6_A3E8,
+        11 => 0xCB61_B38C,
+        12 => 0x9B64_C2B0,
+        13 => 0x86D3_D2D4,
+        14 => 0xA00A_E278,
+        15 => 0xBDBD_F21C,
+        _ => 0,
+    }
+}
+
+fn whole(d: u64) -> u64
+    requires { ⌜ d < 16 ⌝ }
+    ensures { λ r. ⌜ r ≡ steps 8 d ⌝ }
+{
+    match d {
+        0 => 0,
+        1 => 0x7707_3096,
+        2 => 0xEE0E_612C,
+        3 => 0x9909_51BA,
+        4 => 0x076D_C419,
+        5 => 0x706A_F48F,
+        6 => 0xE963_A535,
+        7 => 0x9E64_95A3,
+        8 => 0x0EDB_8832,
+        9 => 0x79DC_B8A4,
+        10 => 0xE0D5_E91E,
+        11 => 0x97D2_D988,
+        12 => 0x09B6_4C2B,
+        13 => 0x7EB1_7CBD,
+        14 => 0xE7B8_2D07,
+        15 => 0x90BF_1D91,
+        _ => 0,
+    }
+}
+
+// The register after a byte.
+fn byte(c: u64, b: u64) -> u64
+    requires { ⌜ (c < 2 ^ 32) × (b < 2 ^ 8) ⌝ }
+    ensures { λ r. ⌜ (r ≡ steps 8 (bitXor c b)) × (r < 2 ^ 32) ⌝ }
+{
+    let x = c ^ b;
+    (x >> 8) ^ (whole(x % 16) ^ half(x / 16 % 16))
+}
+
+// The register after few bytes, one a turn.
+fn few(register: u32, s: &[u8]) -> u32
+    ensures { λ r. ⌜ r ≡ crcOver register (now (s .entry)) ⌝ }
+{
+    let mut c = register as u64;
+    let mut i = 0;
+    while i < s.len() {
+        c = byte(c, wide(s[i]));
+        i += 1;
+    }
+    c as u32
+}
+
+// The first h bytes as a word of their own: zeros before them, and before the register, change nothing.
+fn head(register: u32, s: &[u8], h: usize) -> Pend
+    requires { ⌜ (0 < h) × (h < 8) × (h + 8 ≤ length (now s)) ⌝ }
+    ensures { λ r. ⌜ left (now (s .entry)) h (held r) ≡ crcOver register (now (s .entry)) ⌝ }
+{
+    let c = register as u64;
+    let zeros = 64 - 8 * h;
+    let z = Pend {
+        a: c << zeros,
+        b: c >> (8 * h),
+        c: 0,
+        d: 0,
+        e: 0,
+    };
+    near(z, load(s, 0) << zeros)
+}
+
+// What is pending where whole words follow.
+fn start(register: u32, s: &[u8], h: usize) -> Pend
+    requires { ⌜ (h < 8) × (h + 8 ≤ length (now s)) ⌝ }
+    ensures { λ r. ⌜ left (now (s .entry)) h (held r) ≡ crcOver register (now (s .entry)) ⌝ }
+{
+    if h == 0 {
+        return Pend {
+            a: register as u64,
+            b: 0,
+            c: 0,
+            d: 0,
+            e: 0,
+        };
+    }
+    head(register, s, h)
+}
+
+fn far_at(z: Pend, s: &[u8], i: usize) -> Pend
+    requires { ⌜ i + 48 ≤ length (now s) ⌝ }
+    ensures { λ r. ⌜ left (now (s .entry)) i (held z) ≡ left (now (s .entry)) (i + 8) (held r) ⌝ }
+{
+    far(z, load(s, i))
+}
+
+fn mid_at(z: Pend, s: &[u8], i: usize) -> Pend
+    requires { ⌜ i + 24 ≤ length (now s) ⌝ }
+    ensures { λ r. ⌜ left (now (s .entry)) i (held z) ≡ left (now (s .entry)) (i + 8) (held r) ⌝ }
+{
+    mid(z, load(s, i))
+}
+
+fn near_at(z: Pend, s: &[u8], i: usize) -> Pend
+    requires { ⌜ i + 16 ≤ length (now s) ⌝ }
+    ensures { λ r. ⌜ left (now (s .entry)) i (held z) ≡ left (now (s .entry)) (i + 8) (held r) ⌝ }
+{
+    near(z, load(s, i))
+}
+
+struct At {
+    z: Pend,
+    i: usize,
+}
+
+// Where many words come, the last five as they were put off are kept instead, the newest first: then what is pending on a word is made
+// when it is read, and two words' bits move in one instruction.
+struct Past {
+    p: u64,
+    q: u64,
+    r: u64,
+    s: u64,
+    t: u64,
+}
+
+fn pull(a: u64, b: u64, c: u64, d: u64) -> u64
+    ensures { λ r. ⌜ r ≡ pulled a b c d ⌝ }
+{
+    (((a << 17) ^ (b >> 47)) ^ (c << 44))
+        ^ (((a << 55) ^ (b >> 9)) ^ (b << 19))
+        ^ ((c >> 45) ^ (d >> 20))
+}
+
+// A word at i, with x besides.
+fn turn(h: Past, x: u64, s: &[u8], i: usize) -> Past
+    requires { ⌜ i + 48 ≤ length (now s) ⌝ }
+    ensures { λ r. ⌜ ((t : ℕ) → left (now (s .entry)) i (bitXor (past h) (over x t)) ≡ left (now (s .entry)) (i + 8) (bitXor (past r) t)) ⌝ }
+{
+    let y = (load(s, i) ^ x) ^ pull(h.q, h.r, h.s, h.t);
+    Past {
+        p: y,
+        q: h.p,
+        r: h.q,
+        s: h.r,
+        t: h.s,
+    }
+}
+
+// Five words at i, with x besides.
+fn five(h: Past, x: Pend, s: &[u8], i: usize) -> Past
+    requires { ⌜ i + 80 ≤ length (now s) ⌝ }
+    ensures { λ r. ⌜ left (now (s .entry)) i (bitXor (past h) (held x)) ≡ left (now (s .entry)) (i + 40) (past r) ⌝ }
+{
+    let two = turn(turn(h, x.a, s, i), x.b, s, i + 8);
+    let four = turn(turn(two, x.c, s, i + 16), x.d, s, i + 24);
+    turn(four, x.e, s, i + 32)
+}
+
+fn settle(h: Past) -> Pend
+    ensures { λ r. ⌜ held r ≡ past h ⌝ }
+{
+    Pend {
+        a: pull(h.q, h.r, h.s, h.t),
+        b: pull(h.p, h.q, h.r, h.s),
+        c: pull(0, h.p, h.q, h.r),
+        d: pull(0, 0, h.p, h.q),
+        e: pull(0, 0, 0, h.p),
+    }
+}
+
+// The words from `at` on, five a turn.
+fn fives(from: Pend, s: &[u8], at: usize) -> At
+    requires { ⌜ (at + 80 ≤ length (now s)) × ((length (now s) - at) % 8 ≡ 0) ⌝ }
+    ensures { λ r. ⌜ (r .i + 8 ≤ length (now (s .entry))) × ((length (now (s .entry)) - r .i) % 8 ≡ 0) × (left (now (s .entry)) at (held from) ≡ left (now (s .entry)) (r .i) (held (r .z))) ⌝ }
+{
+    let none = Past {
+        p: 0,
+        q: 0,
+        r: 0,
+        s: 0,
+        t: 0,
+    };
+    let nothing = Pend {
+        a: 0,
+        b: 0,
+        c: 0,
+        d: 0,
+        e: 0,
+    };
+    let mut h = five(none, from, s, at);
+    let mut i = at + 40;
+    while 80 <= s.len() - i {
+        h = five(h, nothing, s, i);
+        i += 40;
+    }
+    At { z: settle(h), i }
+}
+
+// Below so many bytes it is not worth while.
+const MANY: usize = 120;
+
+fn many(from: Pend, s: &[u8], at: usize) -> At
+    requires { ⌜ (at + 8 ≤ length (now s)) × ((length (now s) - at) % 8 ≡ 0) ⌝ }
+    ensures { λ r. ⌜ (r .i + 8 ≤ length (now (s .entry))) × ((length (now (s .entry)) - r .i) % 8 ≡ 0) × (left (now (s .entry)) at (held from) ≡ left (now (s .entry)) (r .i) (held (r .z))) ⌝ }
+{
+    if s.len() - at < MANY {
+        return At { z: from, i: at };
+    }
+    fives(from, s, at)
+}
+
+// The words from `at` on, up to the last five.
+fn far_to(from: Pend, s: &[u8], at: usize) -> At
+    requires { ⌜ (at + 8 ≤ length (now s)) × ((length (now s) - at) % 8 ≡ 0) ⌝ }
+    ensures { λ r. ⌜ (r .i + 8 ≤ length (now (s .entry))) × ((length (now (s .entry)) - r .i) % 8 ≡ 0) × (left (now (s .entry)) at (held from) ≡ left (now (s .entry)) (r .i) (held (r .z))) ⌝ }
+{
+    let mut z = from;
+    let mut i = at;
+    while 48 <= s.len() - i {
+        z = far_at(z, s, i);
+        i += 8;
+    }
+    At { z, i }
+}
+
+// The words from `at` on, up to the last two.
+fn mid_to(from: Pend, s: &[u8], at: usize) -> At
+    requires { ⌜ (at + 8 ≤ length (now s)) × ((length (now s) - at) % 8 ≡ 0) ⌝ }
+    ensures { λ r. ⌜ (r .i + 8 ≤ length (now (s .entry))) × ((length (now (s .entry)) - r .i) % 8 ≡ 0) × (left (now (s .entry)) at (held from) ≡ left (now (s .entry)) (r .i) (held (r .z))) ⌝ }
+{
+    let mut z = from;
+    let mut i = at;
+    while 24 <= s.len() - i {
+        z = mid_at(z, s, i);
+        i += 8;
+    }
+    At { z, i }
+}
+
+// The words from `at` up to e.
+fn near_to(from: Pend, s: &[u8], at: usize, e: usize) -> Pend
+    requires { ⌜ (at ≤ e) × ((e - at) % 8 ≡ 0) × (e + 8 ≤ length (now s)) ⌝ }
+    ensures { λ r. ⌜ left (now (s .entry)) at (held from) ≡ left (now (s .entry)) e (held r) ⌝ }
+{
+    let mut z = from;
+    let mut i = at;
+    while i < e {
+        z = near_at(z, s, i);
+        i += 8;
+    }
+    z
+}
+
+// The last word.
+fn end(z: Pend, s: &[u8], i: usize) -> u32
+    requires { ⌜ (i + 8 ≡ length (now s)) × (left (now s) i (held z) < 2 ^ 32) ⌝ }
+    ensures { λ r. ⌜ r ≡ left (now (s .entry)) i (held z) ⌝ }
+{
+    let w = last(z, load(s, i));
+    w.a as u32
+}
+
+// The register after `bytes`.
+pub(crate) fn over(register: u32, bytes: &[u8]) -> u32
+    ensures { λ r. ⌜ r ≡ crcOver register (now (bytes .entry)) ⌝ }
+{
+    let n = bytes.len();
+    if n < 8 {
+        return few(register, bytes);
+    }
+    let h = n % 8;
+    let m = many(start(register, bytes, h), bytes, h);
+    let z = m.z;
+    let j = m.i;
+    let f = far_to(z, bytes, j);
+    let y = f.z;
+    let k = f.i;
+    let g = mid_to(y, bytes, k);
+    let w = g.z;
+    let i = g.i;
+    let e = n - 8;
+    end(near_to(w, bytes, i, e), bytes, e)
+}
