@@ -31,7 +31,7 @@ pub enum Verdict {
     Refused(Refusal),
 }
 
-// Where the length field starts in a slot, and where it ends.
+// Where the length field starts in a slot.
 fn room_of(slot: &[u8]) -> usize
     ensures { λ r. ⌜ r ≡ room (length (now (slot .entry))) ⌝ }
 {
