@@ -1,1 +1,2 @@
 pub mod Cutoff
+pub mod Answer

@@ -1,2 +1,3 @@
 pub mod Marks
 pub mod Counted
+pub mod Written

@@ -1,0 +1,90 @@
+//! Classes, checks and frames.
+use std::hint::black_box;
+
+use crate::heap::probe;
+use crate::ours;
+use crate::timing::best;
+
+extern "C" {
+    fn crc32(crc: u64, bytes: *const u8, len: u32) -> u64;
+}
+
+fn zlib(bytes: &[u8]) -> u32 {
+    unsafe { crc32(0, bytes.as_ptr(), bytes.len() as u32) as u32 }
+}
+
+/// crc32fast's table code, whatever the machine has.
+fn table(bytes: &[u8]) -> u32 {
+    let mut hasher = crc32fast::Hasher::internal_new_baseline(0, 0);
+    hasher.update(bytes);
+    hasher.finalize()
+}
+
+fn ramp(n: usize) -> Vec<u8> {
+    (0..n).map(|i| (i * 7 + 3) as u8).collect()
+}
+
+/// About as many calls as fill a tenth of a millisecond.
+fn calls_for(n: usize) -> u32 {
+    (200_000 / (n + 20)).max(1) as u32
+}
+
+fn checks(rounds: u32) {
+    println!("\n### Check: ns a call\n\n| bytes | ours | zlib | crc32fast's tables | zlib / ours | tables / ours |\n|--:|--:|--:|--:|--:|--:|");
+    for n in [0, 1, 4, 8, 16, 31, 32, 60, 64, 100, 128, 252, 256, 512, 1020, 1024, 2044, 4092, 16380, 65532, 1048572] {
+        let bytes = ramp(n);
+        assert_eq!(ours::crc32(&bytes), zlib(&bytes));
+        assert_eq!(ours::crc32(&bytes), table(&bytes));
+        let mut a = |calls| (0..calls).for_each(|_| drop(black_box(ours::crc32(black_box(&bytes)))));
+        let mut b = |calls| (0..calls).for_each(|_| drop(black_box(zlib(black_box(&bytes)))));
+        let mut c = |calls| (0..calls).for_each(|_| drop(black_box(table(black_box(&bytes)))));
+        let t = best(rounds, calls_for(n), &mut [&mut a, &mut b, &mut c]);
+        println!("| {n} | {:.1} | {:.1} | {:.1} | {:.2} | {:.2} |", t[0], t[1], t[2], t[1] / t[0], t[2] / t[0]);
+    }
+}
+
+fn classes(rounds: u32) {
+    println!("\n### Class: ns a call\n\n| sizes | ours | the Rust | the Rust / ours |\n|---|--:|--:|--:|");
+    let spread = |most: u64| -> Vec<u64> { (0..1024u64).map(|i| i.wrapping_mul(0x9E37_79B9_7F4A_7C15) % most).collect() };
+    for (name, most) in [("below 60", 60), ("below 4 KiB", 4096), ("below 16 GiB", 1 << 34)] {
+        let sizes = spread(most);
+        let agreed = sizes.iter().filter(|n| ours::class(**n) == u64::from(probe::class(**n))).count();
+        assert!(agreed + 8 >= sizes.len(), "classes differ beyond the listed differences");
+        let mut a = |calls| (0..calls).for_each(|_| sizes.iter().for_each(|n| drop(black_box(ours::class(black_box(*n))))));
+        let mut b = |calls| (0..calls).for_each(|_| sizes.iter().for_each(|n| drop(black_box(probe::class(black_box(*n))))));
+        let t = best(rounds, 20, &mut [&mut a, &mut b]);
+        println!("| {name} | {:.1} | {:.1} | {:.2} |", t[0] / 1024.0, t[1] / 1024.0, t[1] / t[0]);
+    }
+}
+
+fn frames(rounds: u32) {
+    println!("\n### Frames: ns a call, beside our check of the same bytes with one pass over them\n");
+    println!("| slot | object | write | check + copy | ratio | read | check | ratio |\n|--:|--:|--:|--:|--:|--:|--:|--:|");
+    for (size, n) in [(64, 59), (64, 3), (256, 250), (1024, 1000), (4096, 4090), (65536, 65528), (1048576, 1048568)] {
+        let object = ramp(n);
+        let mut slot = vec![255u8; size];
+        let mut copy = vec![255u8; size];
+        assert_eq!(ours::frame_write(&mut slot, &object), 0);
+        assert_eq!(ours::frame_read(&slot), Some(n as u64));
+        let kept = slot.clone();
+        let mut write = |calls| (0..calls).for_each(|_| drop(black_box(ours::frame_write(black_box(&mut slot), black_box(&object)))));
+        let mut check_copy = |calls| {
+            (0..calls).for_each(|_| {
+                let to = black_box(&mut copy);
+                to[..n].copy_from_slice(black_box(&object));
+                to[n..].fill(0);
+                drop(black_box(ours::crc32(&to[..size - 4])));
+            })
+        };
+        let mut read = |calls| (0..calls).for_each(|_| drop(black_box(ours::frame_read(black_box(&kept)))));
+        let mut check = |calls| (0..calls).for_each(|_| drop(black_box(ours::crc32(black_box(&kept[..size - 4])))));
+        let t = best(rounds, calls_for(size), &mut [&mut write, &mut check_copy, &mut read, &mut check]);
+        println!("| {size} | {n} | {:.1} | {:.1} | {:.2} | {:.1} | {:.1} | {:.2} |", t[0], t[1], t[0] / t[1], t[2], t[3], t[2] / t[3]);
+    }
+}
+
+pub fn run(rounds: u32) {
+    checks(rounds);
+    classes(rounds);
+    frames(rounds);
+}

@@ -1,0 +1,3 @@
+pub mod LawsCut
+pub mod LawsCutoff
+pub mod Cases

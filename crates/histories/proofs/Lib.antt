@@ -1,0 +1,16 @@
+pub mod Applied
+pub mod Kept
+pub mod KeptBatches
+pub mod KeptRebuild
+pub mod Reached
+pub mod Same
+pub mod SameMoves
+pub mod SameAnswers
+pub mod Abandoned
+pub mod Rebuilt
+pub mod LiveRows
+pub mod Tallied
+pub mod MovesFit
+pub mod Smallest
+pub mod Examples
+pub mod Lent

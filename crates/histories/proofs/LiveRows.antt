@@ -1,0 +1,77 @@
+-- The live rows of a store, in the order of their ids: demand 3's rows can always be had. Assumes nothing.
+use mathlib.Core.Path.{_≡_, sym, refl, ap, _∙_}
+use mathlib.Core.Logic.{_⊎_, inl, inr, _≢_}
+use mathlib.Core.Bool.{true, Bool, false}
+use mathlib.Core.List.{List, [], _∷_, List·Memᴰ, List·Memᴰ·not-nil, List·Memᴰ·cases-cons, List·Memᴰ·head, List·Memᴰ·tail}
+use Prim.Native.Nat.{ℕ, zero, suc, _≤_, _+_}
+use native.Mathlib.Nat.{add-zero, suc-ne-zero, add-suc, suc-add, zero-add}
+use native.Mathlib.Omega.{arith}
+use lib.ListN.{getD}
+use Rattle.refusal.proofs.Tests.{clash}
+use Rattle.model.specs.Step.{state}
+use Rattle.model.specs.Store.{Row, Store}
+use Rattle.model.specs.Tables.{at, elem, idsOf, locationOf}
+use Rattle.model.proofs.Tables.{elem-cases}
+use Rattle.histories.specs.Invariant.{Inv}
+use Rattle.histories.specs.Statements.{Distinct, none, more, AtRest, LiveRows, RowsExist}
+use Rattle.histories.proofs.Reached.{reached}
+use Rattle.histories.proofs.Rebuilt.{located-held}
+
+-- the rows of the ids from i on, by their locations
+abbrev pub collect : ℕ → List ℕ → List Row
+collect i [] = []
+collect i (zero ∷ ls) = collect (suc i) ls
+collect i (suc l ∷ ls) = (i, suc l) ∷ collect (suc i) ls
+
+abbrev pub liveRows : Store → List Row
+liveRows s = collect 0 (s .locations)
+
+from : (i : ℕ) (ls : List ℕ) (x : ℕ) → elem x (idsOf (collect i ls)) ≡ true → i ≤ x
+from i [] x e = clash (sym e)
+from i (zero ∷ ls) x e = let h = from (suc i) ls x e in omega arith
+from i (suc l ∷ ls) x e = go (λ m. from (suc i) ls x m) (elem-cases x i (idsOf (collect (suc i) ls)) e)
+  where
+    go : (elem x (idsOf (collect (suc i) ls)) ≡ true → suc i ≤ x) → (x ≡ i) ⊎ (elem x (idsOf (collect (suc i) ls)) ≡ true) → i ≤ x
+    go f (inl q) = omega arith
+    go f (inr m) = let h = f m in omega arith
+
+distinct : (i : ℕ) (ls : List ℕ) → Distinct (collect i ls)
+distinct i [] = none
+distinct i (zero ∷ ls) = distinct (suc i) ls
+distinct i (suc l ∷ ls) = more (go (elem i (idsOf (collect (suc i) ls))) refl) (distinct (suc i) ls)
+  where
+    go : (b : Bool) → elem i (idsOf (collect (suc i) ls)) ≡ b → b ≡ false
+    go true e = let h = from (suc i) ls i e in absurd (omega arith)
+    go false e = refl
+
+-- a row is an id's that has a location
+there : (i : ℕ) (ls : List ℕ) (r : Row) → List·Memᴰ r (collect i ls) → (j : ℕ) × (r .0 ≡ i + j) × (getD ls j 0 ≡ r .1) × (r .1 ≢ 0)
+there i [] r m = absurd (List·Memᴰ·not-nil m)
+there i (zero ∷ ls) r m = let q = there (suc i) ls r m in (suc (q .0), omega (arith, q .1), q .2, q .3)
+there i (suc l ∷ ls) r m = go (λ k. there (suc i) ls r k) (List·Memᴰ·cases-cons m)
+  where
+    go : (List·Memᴰ r (collect (suc i) ls) → (j : ℕ) × (r .0 ≡ suc i + j) × (getD ls j 0 ≡ r .1) × (r .1 ≢ 0))
+        → (r ≡ (i, suc l)) ⊎ List·Memᴰ r (collect (suc i) ls) → (j : ℕ) × (r .0 ≡ i + j) × (getD (suc l ∷ ls) j 0 ≡ r .1) × (r .1 ≢ 0)
+    go f (inl e) = (0, ap (λ x. x .0) e ∙ sym (add-zero i), sym (ap (λ x. x .1) e), λ z. suc-ne-zero l (sym (ap (λ x. x .1) e) ∙ z))
+    go f (inr k) = let q = f k in (suc (q .0), omega (arith, q .1), q .2, q .3)
+
+all-there : (i : ℕ) (ls : List ℕ) (j : ℕ) → getD ls j 0 ≢ 0 → List·Memᴰ (i + j, getD ls j 0) (collect i ls)
+all-there i [] j n = absurd (n refl)
+all-there i (zero ∷ ls) zero n = absurd (n refl)
+all-there i (zero ∷ ls) (suc j) n = rw (add-suc, ← suc-add) (all-there (suc i) ls j n)
+all-there i (suc l ∷ ls) zero n = List·Memᴰ·head {x = (i, suc l)} (ap {B = Row} (λ x. (x, suc l)) (add-zero i))
+all-there i (suc l ∷ ls) (suc j) n = List·Memᴰ·tail {x = (i, suc l)} {xs = collect (suc i) ls} (rw (add-suc, ← suc-add) (all-there (suc i) ls j n))
+
+pub live-rows : (s : Store) → Inv s → AtRest s → LiveRows s (liveRows s)
+live-rows s v a = record {
+  once = distinct 0 (s .locations);
+  only = λ r m.
+      let q = there 0 (s .locations) r m in
+      let e : r .0 ≡ q .0 = q .1 ∙ zero-add (q .0) in
+      let l : locationOf s (r .0) ≡ r .1 = rw e (q .2) in
+      (located-held s v a (r .0) (rw l (q .3)), l);
+  every = λ i h. rw zero-add at (all-there 0 (s .locations) i (a .stored i h));
+}
+
+pub rows-exist : RowsExist
+rows-exist n m h c a = (liveRows (state n m h), live-rows (state n m h) (reached n m c h) a)

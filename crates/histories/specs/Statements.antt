@@ -1,0 +1,246 @@
+-- What is proved of every history, in the mission's words. It speaks of `answer`, `next`, `refusal` and `state` of crate model; what a
+-- reader must believe is those and this page. The proofs stand in proofs/, each under the name said beside it. Assumes nothing.
+use mathlib.Core.Path.{_≡_}
+use mathlib.Core.Logic.{_≢_}
+use mathlib.Core.Bool.{Bool, true, false, cond}
+use mathlib.Core.List.{List, [], _∷_, List·Memᴰ}
+use Prim.Native.Nat.{ℕ, suc, _+_, _-_, _*_, _/_, _%_, _^_, _≤_, _<_}
+use lib.Dec.{eqb}
+use lib.ListN.{length, getD, set, take}
+use lib.Ieee.{Float}
+use Rattle.refusal.specs.Refusals.{noneFree, nothingToCut}
+use Rattle.sizes.specs.Sizes.{slabFor}
+use Rattle.address.specs.Address.{slabs, unit, packing}
+use Rattle.id_allocator.specs.Marks.{isFree, isTaken, countIf, tip}
+use Rattle.model.specs.Store.{Store, Update, put, free, Row, Call, newId, release, offer, commit, abandon, fresh, rebuild, lookup, counters, defrag, truncation, report}
+use Rattle.model.specs.Store.{Answer, refused, done, gave, placed, counts, moves, keep, cut}
+use Rattle.model.specs.Verdict.{Verdict, ok, refuse}
+use Rattle.model.specs.Tables.{part, slabTip, capacities, sized, locationOf, heldId, idsOf, locationsOf, elem, isOpen}
+use Rattle.model.specs.Batches.{updatesOf}
+use Rattle.model.specs.Rebuild.{rowsOf, freshStore}
+use Rattle.model.specs.Defrag.{allMoves}
+use Rattle.model.specs.Step.{refusal, answer, next, after, state}
+use Rattle.model.specs.Memory.{Memory, read}
+use Rattle.model.specs.MemoryAfter.{memoryAfter}
+use Rattle.histories.specs.Invariant.{Inv}
+
+-- ---- 1. the invariant (Reached.reached)
+
+abbrev pub Reached : Type 0
+Reached = (n m : ℕ) → capacities n m ≡ true → (h : List Call) → Inv (state n m h)
+
+-- ---- 2. the tallies (Tallied.tallied, Tallied.below-tip)
+
+-- the rows of the last granted fresh or rebuild
+abbrev pub rowsBy : Verdict → Call → List Row → List Row
+rowsBy (refuse n i) c rs = rs
+rowsBy ok newId rs = rs
+rowsBy ok release rs = rs
+rowsBy ok (offer is ss ns out) rs = rs
+rowsBy ok commit rs = rs
+rowsBy ok abandon rs = rs
+rowsBy ok fresh rs = []
+rowsBy ok (rebuild is ls) rs = rowsOf is ls
+rowsBy ok (lookup i) rs = rs
+rowsBy ok counters rs = rs
+rowsBy ok (defrag r is ls) rs = rs
+rowsBy ok (truncation k t) rs = rs
+rowsBy ok (report k t) rs = rs
+
+abbrev pub rowsSince : Store → List Row → List Call → List Row
+rowsSince s rs [] = rs
+rowsSince s rs (c ∷ cs) = rowsSince (next s c) (rowsBy (refusal s c) c rs) cs
+
+-- whether a location is of slab k
+abbrev pub inSlab : ℕ → ℕ → Bool
+inSlab k l = eqb (l / unit) (suc k)
+
+-- held plus pending
+abbrev pub taken : List ℕ → ℕ
+taken t = countIf isTaken t
+
+-- granted minus freed plus rows rebuilt is held plus pending, modulo 2^64; said without a minus
+pub record Tally (s : Store) (rs : List Row) : Type 0 where
+  pub of-ids : (getD (s .tallies .granted) 0 0 + length rs) % 2 ^ 64 ≡ (getD (s .tallies .freed) 0 0 + taken (s .idMarks)) % 2 ^ 64
+  pub of-slab : (k : ℕ) → k < slabs →
+      (getD (s .tallies .granted) (suc k) 0 + countIf (inSlab k) (locationsOf rs)) % 2 ^ 64
+      ≡ (getD (s .tallies .freed) (suc k) 0 + taken (part (s .slots) (s .slotMarks) k)) % 2 ^ 64
+
+abbrev pub Tallied : Type 0
+Tallied = (n m : ℕ) → capacities n m ≡ true → (h : List Call) → Tally (state n m h) (rowsSince (freshStore n m) [] h)
+
+-- held plus pending plus free below tip is tip, whatever the marks and the used word
+abbrev pub BelowTip : Type 0
+BelowTip = (t : List ℕ) (used : ℕ) → 1 ≤ length t → taken t + countIf isFree (take (tip t used) t) ≡ tip t used
+
+-- ---- 3. the smallest free number (Smallest.new-ids, Smallest.no-new-id, Smallest.new-slots), whatever the tables hold
+
+-- n is free, and no number from `from` on is that is smaller
+pub record SmallestFree (from n : ℕ) (t : List ℕ) : Type 0 where
+  pub from-on : from ≤ n
+  pub inside : n < length t
+  pub is-free : getD t n 0 ≡ 0
+  pub none-smaller : (i : ℕ) → from ≤ i → i < n → getD t i 0 ≢ 0
+
+abbrev pub NewIds : Type 0
+NewIds = (s : Store) (n : ℕ) → answer s newId ≡ gave n → SmallestFree 1 n (s .idMarks)
+
+-- refused with 10 only where no id above 0 is free
+abbrev pub NoNewId : Type 0
+NoNewId = (s : Store) → answer s newId ≡ refused noneFree 0 → (i : ℕ) → 1 ≤ i → i < s .ids → getD (s .idMarks) i 0 ≢ 0
+
+-- each Store in list order gets the smallest free slot of its slab, and holds it; a Free gets 0
+abbrev pub InOrder : ℕ → List ℕ → List Update → List ℕ → Type 0
+InOrder cap t [] [] = Unit
+InOrder cap t [] (l ∷ ls) = ⊥
+InOrder cap t (u ∷ us) [] = ⊥
+InOrder cap t (put i n ∷ us) (l ∷ ls) =
+    (j : ℕ) × (l ≡ packing (slabFor n) j) × SmallestFree 0 j (part cap t (slabFor n)) × InOrder cap (set t (slabFor n * cap + j) 1) us ls
+InOrder cap t (free i ∷ us) (l ∷ ls) = (l ≡ 0) × InOrder cap t us ls
+
+abbrev pub NewSlots : Type 0
+NewSlots = (s : Store) (is : List ℕ) (ss : List Bool) (ns out ls : List ℕ) → answer s (offer is ss ns out) ≡ placed ls
+    → InOrder (s .slots) (s .slotMarks) (updatesOf is ss ns) ls
+
+-- ---- 4. demand 3
+
+-- what is seen of an answer: counters, truncation answers and cut reports remember history and are excepted
+pub data Seen : Type 0 where
+  shown : Answer → Seen
+  excepted : Seen
+
+-- of an excepted answer a refusal is still seen
+abbrev pub veil : Answer → Seen
+veil (refused n i) = shown (refused n i)
+veil done = excepted
+veil (gave n) = excepted
+veil (placed ls) = excepted
+veil (counts g f z) = excepted
+veil (moves ms) = excepted
+veil keep = excepted
+veil (cut n b) = excepted
+
+-- but of a cut report not whether the test says keep
+abbrev pub veilReport : Answer → Seen
+veilReport (refused n i) = cond (eqb n nothingToCut) excepted (shown (refused n i))
+veilReport done = excepted
+veilReport (gave n) = excepted
+veilReport (placed ls) = excepted
+veilReport (counts g f z) = excepted
+veilReport (moves ms) = excepted
+veilReport keep = excepted
+veilReport (cut n b) = excepted
+
+abbrev pub seen : Call → Answer → Seen
+seen newId a = shown a
+seen release a = shown a
+seen (offer is ss ns out) a = shown a
+seen commit a = shown a
+seen abandon a = shown a
+seen fresh a = shown a
+seen (rebuild is ls) a = shown a
+seen (lookup i) a = shown a
+seen counters a = veil a
+seen (defrag r is ls) a = shown a
+seen (truncation k t) a = veil a
+seen (report k t) a = veilReport a
+
+abbrev pub answers : Store → List Call → List Seen
+answers s [] = []
+answers s (c ∷ cs) = seen c (answer s c) ∷ answers (next s c) cs
+
+-- no batch is open, nothing is pending, and every id that is held, except 0, is stored
+pub record AtRest (s : Store) : Type 0 where
+  pub closed : s .batch .opened ≡ 0
+  pub no-id : (i : ℕ) → getD (s .idMarks) i 0 ≢ 2
+  pub no-slot : (p : ℕ) → getD (s .slotMarks) p 0 ≢ 2
+  pub stored : (i : ℕ) → heldId s i ≡ true → locationOf s i ≢ 0
+
+-- no two rows have one id
+pub data Distinct : List Row → Type 0 where
+  none : Distinct []
+  more : {r : Row} {rs : List Row} → elem (r .0) (idsOf rs) ≡ false → Distinct rs → Distinct (r ∷ rs)
+
+-- the rows are the live ids, each once, in any order, with their locations
+pub record LiveRows (s : Store) (rs : List Row) : Type 0 where
+  pub once : Distinct rs
+  pub only : (r : Row) → List·Memᴰ r rs → (heldId s (r .0) ≡ true) × (locationOf s (r .0) ≡ r .1)
+  pub every : (i : ℕ) → heldId s i ≡ true → List·Memᴰ (i, locationOf s i) rs
+
+-- (Rebuilt.rebuild-agrees) a rebuild from the live rows, in any memory of the same capacities, is granted, and no later answer differs
+abbrev pub RebuildAgrees : Type 0
+RebuildAgrees =
+    (n m : ℕ) (h : List Call) (rs : List Row) (memory : Store) →
+    capacities n m ≡ true → AtRest (state n m h) → LiveRows (state n m h) rs →
+    memory .ids ≡ n → memory .slots ≡ m → sized memory ≡ true →
+    (refusal memory (rebuild (idsOf rs) (locationsOf rs)) ≡ ok) ×
+    ((later : List Call) → answers (next memory (rebuild (idsOf rs) (locationsOf rs))) later ≡ answers (state n m h) later)
+
+-- a batch is open before each of these calls, and after the last
+abbrev pub StaysOpen : Store → List Call → Type 0
+StaysOpen s [] = isOpen s ≡ true
+StaysOpen s (c ∷ cs) = (isOpen s ≡ true) × StaysOpen (next s c) cs
+
+-- the calls that were not refused
+abbrev pub keepIf : Verdict → Call → List Call → List Call
+keepIf ok c cs = c ∷ cs
+keepIf (refuse n i) c cs = cs
+
+abbrev pub grantedOf : Store → List Call → List Call
+grantedOf s [] = []
+grantedOf s (c ∷ cs) = keepIf (refusal s c) c (grantedOf (next s c) cs)
+
+-- (Abandoned.abandon-agrees) a batch is offered, calls are made while it is open, it is abandoned: later answers are as if it had never been
+-- offered and only the calls granted in between had been made
+abbrev pub AbandonAgrees : Type 0
+AbandonAgrees =
+    (n m : ℕ) (h : List Call) (is : List ℕ) (ss : List Bool) (ns out : List ℕ) (between later : List Call) →
+    capacities n m ≡ true → refusal (state n m h) (offer is ss ns out) ≡ ok → StaysOpen (next (state n m h) (offer is ss ns out)) between →
+    answers (next (after (next (state n m h) (offer is ss ns out)) between) abandon) later
+    ≡ answers (after (state n m h) (grantedOf (next (state n m h) (offer is ss ns out)) between)) later
+
+-- (Lent.memory-agrees, Lent.rebuild-agrees-lent) the same of the lent tables, whatever they hold: a sequence of calls on them is answered
+-- as on the store that is read from them, so after a rebuild in any memory of the right lengths no later answer differs
+abbrev pub answersIn : Memory → List Call → List Seen
+answersIn m [] = []
+answersIn m (c ∷ cs) = seen c (answer (read m) c) ∷ answersIn (memoryAfter m c) cs
+
+abbrev pub MemoryAgrees : Type 0
+MemoryAgrees = (m : Memory) (cs : List Call) → answersIn m cs ≡ answers (read m) cs
+
+-- the lengths of the six tables
+pub record Lengths (m : Memory) : Type 0 where
+  pub id-marks : length (m .idMarks) ≡ m .ids
+  pub locations : length (m .locations) ≡ m .ids
+  pub slot-marks : length (m .slotMarks) ≡ slabs * m .slots
+  pub owners : length (m .owners) ≡ slabs * m .slots
+  pub batch : length (m .batch) ≡ 513
+  pub tallies : length (m .tallies) ≡ 473
+
+abbrev pub RebuildAgreesLent : Type 0
+RebuildAgreesLent =
+    (n m : ℕ) (h : List Call) (rs : List Row) (memory : Memory) →
+    capacities n m ≡ true → AtRest (state n m h) → LiveRows (state n m h) rs →
+    memory .ids ≡ n → memory .slots ≡ m → Lengths memory →
+    (refusal (read memory) (rebuild (idsOf rs) (locationsOf rs)) ≡ ok) ×
+    ((later : List Call) → answersIn (memoryAfter memory (rebuild (idsOf rs) (locationsOf rs))) later ≡ answers (state n m h) later)
+
+-- (LiveRows.rows-exist) the rows that a rebuild wants can always be had
+abbrev pub RowsExist : Type 0
+RowsExist = (n m : ℕ) (h : List Call) → capacities n m ≡ true → AtRest (state n m h) → (rs : List Row) × LiveRows (state n m h) rs
+
+-- (Examples.rebuild-met, Examples.abandon-met) some history meets each condition: one that stores and frees is at rest with two live rows, and
+-- there is a memory to rebuild in; one offers a batch, and between the offer and the abandon one call is granted and one refused
+abbrev pub RebuildMet : Type 0
+RebuildMet = (h : List Call) × (rs : List Row) × AtRest (state 9 4 h) × LiveRows (state 9 4 h) rs × (length rs ≡ 2) × (sized (freshStore 9 4) ≡ true)
+
+abbrev pub AbandonMet : Type 0
+AbandonMet =
+    (h : List Call) × (is : List ℕ) × (ss : List Bool) × (ns : List ℕ) × (out : List ℕ) × (between : List Call) ×
+    (refusal (state 9 4 h) (offer is ss ns out) ≡ ok) × StaysOpen (next (state 9 4 h) (offer is ss ns out)) between ×
+    (length between ≡ 2) × (length (grantedOf (next (state 9 4 h) (offer is ss ns out)) between) ≡ 1)
+
+-- ---- 5. a defrag list fits its lent lists (MovesFit.moves-fit), whatever the tables hold
+
+abbrev pub MovesFit : Type 0
+MovesFit = (s : Store) (r : Float) → capacities (s .ids) (s .slots) ≡ true → length (allMoves s r) ≤ s .ids - 1

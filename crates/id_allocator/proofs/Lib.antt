@@ -1,0 +1,6 @@
+pub mod LawsFree
+pub mod LawsCount
+pub mod LawsMapped
+pub mod LawsHinted
+pub mod LawsCounted
+pub mod LawsReleased

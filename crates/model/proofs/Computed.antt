@@ -1,0 +1,18 @@
+-- The cases hold: what the rules give and what the document says compute to the same numbers. Assumes nothing.
+use mathlib.Core.Path.{_≡_, refl}
+use mathlib.Core.Bool.{true}
+use lib.Ieee.{binary32, div, le, lt, eq, ofInt, toUnsigned, round, units, odd, size, span, climb}
+use Rattle.sizes.specs.Sizes.{slabSizes, fieldWidth, firstFit, slabFor, sizeOf}
+use Rattle.address.specs.Address.{badSlots}
+use Rattle.fragmentation.specs.Cutoff.{isRatio, cutoff}
+use Rattle.model.specs.Verdict.{_⨾_, test}
+use Rattle.model.specs.Tables.{badIds}
+use Rattle.model.specs.Ids.{bumpPending}
+use Rattle.model.specs.Batches.{room}
+use Rattle.model.specs.Defrag.{movesFrom}
+use Rattle.model.specs.Step.{refusal, grant, effect, answer, next}
+use Rattle.model.specs.Cases.{allHold, cases}
+
+pub cases-hold : allHold cases ≡ true
+unfolding cases _⨾_ test answer next refusal grant effect badIds badSlots slabFor firstFit slabSizes fieldWidth sizeOf isRatio cutoff div le lt eq ofInt toUnsigned round units odd size span climb room bumpPending movesFrom
+cases-hold = refl

@@ -1,0 +1,16 @@
+pub mod Verdicts
+pub mod Tables
+pub mod Batches
+pub mod Granted
+pub mod Rows
+pub mod Computed
+pub mod Words
+pub mod Slabs
+pub mod Steps
+pub mod ReadIds
+pub mod ReadBatches
+pub mod ReadRelease
+pub mod Read
+pub mod Lent
+pub mod Compared
+pub mod Shapes

@@ -1,0 +1,15 @@
+pub mod Store
+pub mod Verdict
+pub mod Tables
+pub mod Ids
+pub mod Batches
+pub mod Rebuild
+pub mod Defrag
+pub mod Truncation
+pub mod Step
+pub mod Numbers
+pub mod Cases
+pub mod Sample
+pub mod Memory
+pub mod MemoryAfter
+pub mod Lent

@@ -1,0 +1,165 @@
+-- A sample of the oracle's histories, on the definitions themselves. Each call and its answer are taken line by line from oracle/answers
+-- (README.md there has the grammar): the answer is the Rust's for each call that it grants, and the refusal of document 01 elsewhere.
+-- Assumes nothing.
+use mathlib.Core.Bool.{Bool, true, false, _&&_}
+use mathlib.Core.List.{List, [], _∷_}
+use Prim.Native.Nat.{ℕ}
+use lib.ListN.{set, replicate}
+use lib.IntN.{pos, negsuc}
+use lib.Ieee.{Float, nan, inf, fin}
+use Rattle.model.specs.Store.{Store, Call, newId, release, offer, commit, abandon, fresh, rebuild, lookup, counters, defrag, truncation, report}
+use Rattle.model.specs.Store.{Answer, refused, done, gave, placed, counts, moves, keep, cut}
+use Rattle.model.specs.Rebuild.{freshStore}
+use Rattle.model.specs.Step.{answer, next}
+use Rattle.model.specs.Numbers.{said, sameSaid}
+use Rattle.model.specs.Cases.{defragOf}
+
+-- a call, and what was answered
+pub record Asked : Type 0 where
+  pub call : Call
+  pub answered : Answer
+
+abbrev pub asked : Call → Answer → Asked
+asked c a = record { call = c; answered = a }
+
+-- of some allocators the granted and freed numbers, 0 of the others; and the sums
+abbrev pub grantedFrom : List (ℕ × ℕ × ℕ) → List ℕ
+grantedFrom [] = replicate 79 0
+grantedFrom (c ∷ cs) = set (grantedFrom cs) (c .0) (c .1)
+
+abbrev pub freedFrom : List (ℕ × ℕ × ℕ) → List ℕ
+freedFrom [] = replicate 79 0
+freedFrom (c ∷ cs) = set (freedFrom cs) (c .0) (c .2)
+
+abbrev pub countsFrom : List (ℕ × ℕ × ℕ) → ℕ → ℕ → ℕ → ℕ → Answer
+countsFrom cs a b c d = counts (grantedFrom cs) (freedFrom cs)
+    (record { objectsAllocated = a; objectsFreed = b; heapSlotsAllocated = c; heapSlotsFreed = d })
+
+-- every call is answered so, one after the other
+abbrev pub agrees : Store → List Asked → Bool
+agrees s [] = true
+agrees s (q ∷ qs) = sameSaid (said (answer s (q .call))) (said (q .answered)) && agrees (next s (q .call)) qs
+
+-- stores.txt, history 1: the first 9 calls after fresh
+unfoldable pub sample1 : List Asked
+sample1 =
+    asked newId (gave 1) ∷ asked newId (gave 2) ∷ asked newId (gave 3) ∷
+    asked (offer (1 ∷ 2 ∷ 3 ∷ []) (true ∷ true ∷ true ∷ []) (3 ∷ 3 ∷ 3 ∷ []) (1 ∷ 2 ∷ 3 ∷ [])) (placed (72057594037927936 ∷ 72057594037927937 ∷ 72057594037927938 ∷ [])) ∷
+    asked commit done ∷ asked (offer (2 ∷ []) (false ∷ []) (0 ∷ []) (2 ∷ [])) (placed (0 ∷ [])) ∷ asked commit done ∷ asked release done ∷
+    asked newId (gave 2) ∷ []
+
+-- stores.txt, history 8: the first 33 calls after fresh
+unfoldable pub sample2 : List Asked
+sample2 =
+    asked release done ∷ asked newId (gave 1) ∷ asked newId (gave 2) ∷ asked counters (countsFrom ((0, 3, 0) ∷ []) 3 0 0 0) ∷
+    asked (offer (2 ∷ []) (true ∷ []) (3 ∷ []) (2 ∷ [])) (placed (72057594037927936 ∷ [])) ∷ asked commit done ∷ asked release done ∷
+    asked (rebuild (2 ∷ []) (72057594037927936 ∷ [])) done ∷ asked (defragOf (fin false 1 (negsuc 0)) 4) (moves []) ∷ asked newId (gave 1) ∷
+    asked (truncation 0 86) keep ∷ asked (report 0 86) (refused 17 0) ∷ asked (truncation 0 86) keep ∷ asked (report 0 86) (refused 17 0) ∷
+    asked (defragOf (fin false 15099495 (negsuc 23)) 4) (moves []) ∷
+    asked (offer (1 ∷ 1 ∷ 2 ∷ []) (true ∷ true ∷ true ∷ []) (3 ∷ 3 ∷ 3 ∷ []) (1 ∷ 1 ∷ 2 ∷ [])) (refused 9 1) ∷ asked newId (gave 3) ∷
+    asked (lookup 18446744073709551615) (refused 8 0) ∷ asked (defragOf nan 4) (refused 14 0) ∷ asked release done ∷
+    asked (offer (1 ∷ 2 ∷ 3 ∷ []) (true ∷ true ∷ true ∷ []) (3 ∷ 3 ∷ 3 ∷ []) (1 ∷ 2 ∷ 3 ∷ [])) (placed (72057594037927937 ∷ 72057594037927938 ∷ 72057594037927939 ∷ [])) ∷
+    asked commit done ∷ asked (lookup 2) (gave 72057594037927938) ∷ asked commit (refused 12 0) ∷ asked (defragOf nan 4) (refused 14 0) ∷
+    asked (lookup 5) (refused 8 0) ∷ asked counters (countsFrom ((0, 3, 0) ∷ (1, 3, 0) ∷ []) 3 0 3 0) ∷ asked release done ∷
+    asked (offer (1 ∷ 2 ∷ 3 ∷ []) (false ∷ true ∷ true ∷ []) (0 ∷ 3 ∷ 3 ∷ []) (1 ∷ 2 ∷ 3 ∷ [])) (placed (0 ∷ 72057594037927936 ∷ 72057594037927940 ∷ [])) ∷
+    asked commit done ∷ asked release done ∷ asked (defragOf (fin false 1 (negsuc 148)) 4) (moves []) ∷ asked (lookup 2) (gave 72057594037927936) ∷ []
+
+-- stores.txt, history 12: the first 21 calls after fresh
+unfoldable pub sample3 : List Asked
+sample3 =
+    asked (offer [] [] [] []) (placed []) ∷ asked abandon done ∷ asked newId (gave 1) ∷
+    asked (offer (1 ∷ []) (true ∷ []) (8388599 ∷ []) (1 ∷ [])) (placed (4035225266123964416 ∷ [])) ∷ asked commit done ∷
+    asked (offer (1 ∷ 1 ∷ []) (true ∷ true ∷ []) (8388599 ∷ 17179869173 ∷ []) (1 ∷ 1 ∷ [])) (refused 9 1) ∷ asked release done ∷ asked release done ∷
+    asked newId (gave 2) ∷ asked newId (gave 3) ∷ asked newId (gave 4) ∷ asked (defragOf (fin false 11184811 (negsuc 24)) 4) (moves []) ∷
+    asked (rebuild (1 ∷ []) (4035225266123964416 ∷ [])) done ∷ asked newId (gave 2) ∷ asked newId (gave 3) ∷ asked release done ∷
+    asked (offer (2 ∷ []) (true ∷ []) (8388599 ∷ []) (2 ∷ [])) (placed (4035225266123964417 ∷ [])) ∷ asked commit done ∷
+    asked (offer (3 ∷ 1 ∷ 2 ∷ []) (false ∷ true ∷ true ∷ []) (0 ∷ 8388599 ∷ 8388599 ∷ []) (3 ∷ 1 ∷ 2 ∷ [])) (refused 10 55) ∷
+    asked (offer (2 ∷ 3 ∷ []) (true ∷ true ∷ []) (8388599 ∷ 8388599 ∷ []) (2 ∷ 3 ∷ [])) (refused 10 55) ∷
+    asked (lookup 18446744073709551615) (refused 8 0) ∷ []
+
+-- stores.txt, history 17: the first 25 calls after fresh
+unfoldable pub sample4 : List Asked
+sample4 =
+    asked release done ∷ asked release done ∷ asked (offer [] [] [] []) (placed []) ∷ asked commit done ∷ asked release done ∷
+    asked (offer [] [] [] []) (placed []) ∷ asked commit done ∷ asked (offer [] [] [] []) (placed []) ∷ asked commit done ∷
+    asked (rebuild (0 ∷ []) (72057594037927936 ∷ [])) (refused 8 0) ∷ asked (offer [] [] [] []) (placed []) ∷ asked commit done ∷
+    asked (offer [] [] [] []) (placed []) ∷ asked newId (refused 11 0) ∷ asked release (refused 11 0) ∷ asked (offer [] [] [] []) (refused 11 0) ∷
+    asked (defragOf (fin false 3 (negsuc 1)) 6) (refused 11 0) ∷ asked (truncation 0 80) (refused 11 0) ∷ asked (report 0 80) (refused 11 0) ∷
+    asked (lookup 1) (refused 8 0) ∷ asked commit done ∷ asked (lookup 4) (refused 8 0) ∷ asked release done ∷ asked (lookup 4) (refused 8 0) ∷
+    asked release done ∷ []
+
+-- stores.txt, history 22: the first 21 calls after fresh
+unfoldable pub sample5 : List Asked
+sample5 =
+    asked (rebuild [] []) done ∷ asked (offer [] [] [] []) (placed []) ∷ asked commit done ∷
+    asked (rebuild (1 ∷ []) (5692549928996306944 ∷ [])) (refused 3 0) ∷ asked newId (gave 1) ∷ asked newId (gave 2) ∷ asked newId (gave 3) ∷
+    asked (defragOf (fin false 1 (pos 0)) 5) (moves []) ∷
+    asked (offer (2 ∷ []) (true ∷ []) (20474 ∷ []) (2 ∷ [])) (placed (2449958197289549824 ∷ [])) ∷ asked commit done ∷
+    asked (offer [] [] [] []) (placed []) ∷ asked commit done ∷ asked (lookup 6) (refused 8 0) ∷ asked newId (gave 4) ∷
+    asked (offer [] [] [] []) (placed []) ∷ asked newId (refused 11 0) ∷ asked release (refused 11 0) ∷ asked (offer [] [] [] []) (refused 11 0) ∷
+    asked (defragOf (fin false 3 (negsuc 1)) 5) (refused 11 0) ∷ asked (truncation 0 80) (refused 11 0) ∷ asked (report 0 80) (refused 11 0) ∷ []
+
+-- stores.txt, history 36: the first 29 calls after fresh
+unfoldable pub sample6 : List Asked
+sample6 =
+    asked (truncation 1 86) keep ∷ asked (report 1 86) (refused 17 0) ∷ asked (truncation 1 86) keep ∷ asked (report 1 86) (refused 17 0) ∷
+    asked (defragOf (fin false 1 (negsuc 0)) 7) (moves []) ∷ asked (offer [] [] [] []) (placed []) ∷ asked commit done ∷
+    asked (offer [] [] [] []) (placed []) ∷ asked abandon done ∷ asked (rebuild [] []) done ∷
+    asked (offer (18446744073709551615 ∷ []) (true ∷ []) (3 ∷ []) (18446744073709551615 ∷ [])) (refused 8 0) ∷
+    asked (defragOf (fin false 1 (negsuc 0)) 7) (moves []) ∷ asked newId (gave 1) ∷ asked commit (refused 12 0) ∷
+    asked (defragOf nan 7) (refused 14 0) ∷ asked (offer (1 ∷ []) (true ∷ []) (3 ∷ []) (1 ∷ [])) (placed (72057594037927936 ∷ [])) ∷
+    asked commit done ∷ asked (truncation 78 0) (refused 3 0) ∷ asked (report 78 0) (refused 3 0) ∷ asked (truncation 78 86) (refused 3 0) ∷
+    asked (report 78 86) (refused 3 0) ∷ asked (offer (1 ∷ []) (true ∷ []) (3 ∷ []) (1 ∷ [])) (placed (72057594037927937 ∷ [])) ∷
+    asked newId (refused 11 0) ∷ asked release (refused 11 0) ∷ asked (offer [] [] [] []) (refused 11 0) ∷
+    asked (defragOf (fin false 3 (negsuc 1)) 7) (refused 11 0) ∷ asked (truncation 0 80) (refused 11 0) ∷ asked (report 0 80) (refused 11 0) ∷
+    asked (lookup 1) (gave 72057594037927936) ∷ []
+
+-- stores.txt, history 50: the first 29 calls after fresh
+unfoldable pub sample7 : List Asked
+sample7 =
+    asked release done ∷ asked newId (gave 1) ∷ asked (offer [] [] [] []) (placed []) ∷ asked commit done ∷
+    asked (offer (1 ∷ []) (true ∷ []) (3 ∷ []) (1 ∷ [])) (placed (72057594037927936 ∷ [])) ∷ asked commit done ∷ asked newId (gave 2) ∷
+    asked newId (gave 3) ∷
+    asked (offer (1 ∷ 3 ∷ 2 ∷ []) (false ∷ false ∷ true ∷ []) (0 ∷ 0 ∷ 3 ∷ []) (1 ∷ 3 ∷ 2 ∷ [])) (placed (0 ∷ 0 ∷ 72057594037927937 ∷ [])) ∷
+    asked abandon done ∷ asked newId (refused 10 0) ∷ asked release done ∷ asked release done ∷
+    asked (offer (1 ∷ 2 ∷ 3 ∷ []) (true ∷ true ∷ true ∷ []) (3 ∷ 3 ∷ 3 ∷ []) (1 ∷ 2 ∷ 3 ∷ [])) (placed (72057594037927937 ∷ 72057594037927938 ∷ 72057594037927939 ∷ [])) ∷
+    asked newId (refused 11 0) ∷ asked release (refused 11 0) ∷ asked (offer [] [] [] []) (refused 11 0) ∷
+    asked (defragOf (fin false 3 (negsuc 1)) 3) (refused 11 0) ∷ asked (truncation 0 80) (refused 11 0) ∷ asked (report 0 80) (refused 11 0) ∷
+    asked (lookup 1) (gave 72057594037927936) ∷ asked commit done ∷ asked release done ∷
+    asked counters (countsFrom ((0, 4, 0) ∷ (1, 5, 2) ∷ []) 4 0 5 2) ∷ asked counters (countsFrom ((0, 4, 0) ∷ (1, 5, 2) ∷ []) 4 0 5 2) ∷
+    asked (lookup 4) (refused 8 0) ∷ asked (lookup 3) (gave 72057594037927939) ∷ asked newId (refused 10 0) ∷
+    asked (defragOf (fin false 1 (pos 0)) 3) (moves ((3, 72057594037927939) ∷ [])) ∷ []
+
+-- files.txt, history 5: the first 43 calls after fresh
+unfoldable pub sample8 : List Asked
+sample8 =
+    asked (offer [] [] [] []) (placed []) ∷ asked commit done ∷ asked newId (gave 1) ∷ asked newId (gave 2) ∷ asked newId (gave 3) ∷
+    asked (offer (1 ∷ 2 ∷ 3 ∷ []) (true ∷ true ∷ true ∷ []) (3 ∷ 662 ∷ 3 ∷ []) (1 ∷ 2 ∷ 3 ∷ [])) (placed (72057594037927936 ∷ 1080863910568919040 ∷ 72057594037927937 ∷ [])) ∷
+    asked commit done ∷ asked (truncation 0 80) keep ∷ asked (truncation 14 80) keep ∷
+    asked counters (countsFrom ((0, 4, 0) ∷ (1, 2, 0) ∷ (15, 1, 0) ∷ []) 4 0 3 0) ∷ asked (defragOf (fin false 0 (pos 0)) 6) (refused 14 0) ∷
+    asked newId (gave 4) ∷ asked newId (gave 5) ∷ asked counters (countsFrom ((0, 6, 0) ∷ (1, 2, 0) ∷ (15, 1, 0) ∷ []) 6 0 3 0) ∷
+    asked (lookup 7) (refused 8 0) ∷ asked (defragOf (fin false 1 (negsuc 148)) 6) (moves []) ∷ asked newId (gave 6) ∷
+    asked (lookup 18446744073709551615) (refused 8 0) ∷ asked (defragOf (fin true 1 (negsuc 0)) 6) (refused 14 0) ∷
+    asked (offer (0 ∷ 3 ∷ []) (true ∷ true ∷ []) (3 ∷ 106 ∷ []) (0 ∷ 3 ∷ [])) (refused 8 0) ∷
+    asked counters (countsFrom ((0, 7, 0) ∷ (1, 2, 0) ∷ (15, 1, 0) ∷ []) 7 0 3 0) ∷
+    asked (offer (2 ∷ 4 ∷ 6 ∷ []) (false ∷ false ∷ false ∷ []) (0 ∷ 0 ∷ 0 ∷ []) (2 ∷ 4 ∷ 6 ∷ [])) (placed (0 ∷ 0 ∷ 0 ∷ [])) ∷ asked commit done ∷
+    asked (truncation 0 80) keep ∷ asked (truncation 14 80) keep ∷
+    asked (offer (1 ∷ []) (true ∷ []) (662 ∷ []) (1 ∷ [])) (placed (1080863910568919041 ∷ [])) ∷ asked commit done ∷ asked (truncation 0 80) keep ∷
+    asked (truncation 14 80) keep ∷
+    asked (offer (1 ∷ 3 ∷ 5 ∷ []) (false ∷ true ∷ true ∷ []) (0 ∷ 662 ∷ 106 ∷ []) (1 ∷ 3 ∷ 5 ∷ [])) (placed (0 ∷ 1080863910568919042 ∷ 288230376151711744 ∷ [])) ∷
+    asked commit done ∷ asked (truncation 0 80) keep ∷ asked (truncation 3 80) keep ∷ asked (truncation 14 80) keep ∷ asked release done ∷
+    asked counters (countsFrom ((0, 7, 4) ∷ (1, 2, 2) ∷ (4, 1, 0) ∷ (15, 3, 2) ∷ []) 7 4 6 4) ∷ asked (defragOf (inf false) 6) (refused 14 0) ∷
+    asked (lookup 0) (refused 8 0) ∷ asked release done ∷
+    asked (offer (5 ∷ 3 ∷ []) (false ∷ false ∷ []) (0 ∷ 0 ∷ []) (5 ∷ 3 ∷ [])) (placed (0 ∷ 0 ∷ [])) ∷ asked commit done ∷
+    asked (truncation 0 80) (cut 64 0) ∷ asked (report 0 80) done ∷ []
+
+unfoldable pub sampleAgrees : Bool
+sampleAgrees =
+    agrees (freshStore 9 8) sample1 &&
+    agrees (freshStore 5 9) sample2 &&
+    agrees (freshStore 5 2) sample3 &&
+    agrees (freshStore 7 4) sample4 &&
+    agrees (freshStore 6 8) sample5 &&
+    agrees (freshStore 8 9) sample6 &&
+    agrees (freshStore 4 6) sample7 &&
+    agrees (freshStore 7 20) sample8
