@@ -1,0 +1,81 @@
+-- Abandon: where the check refuses, nothing is written; where it counts n rows, nothing is refused, and the kept rows are those n.
+-- Assumes nothing.
+use mathlib.Core.Path.{_≡_, refl, sym, ap, _∙_}
+use lib.ListN.{set}
+use Rattle.model.specs.MemoryAfter.{Slots, withKept, withSlots}
+use Rattle.kept.proofs.Laws.{rowsAs-count, rowsAs-refused}
+use Rattle.abandon.specs.Abandon.{abandonMemory}
+use Rattle.abandon.proofs.Laws.{granted-lent, granted-answer, granted-after, refused-answer, refused-after}
+use borrow.Author.Needs.{needs}
+use Rattle.abandon.proofs.abandon.Statement.{statement}
+use Rattle.abandon.proofs.abandon.Tie as tie
+
+check-requires : tie.Need-check-requires
+check-requires c κs = search needs
+
+enum-known-refusal : tie.Need-enum-known-refusal
+enum-known-refusal c = search needs
+
+enum-known-n : tie.Need-enum-known-n
+enum-known-n c = search needs
+
+give-slots-requires : tie.Need-give-slots-requires
+give-slots-requires c κs =
+    let a = c .before .before .before .before .before .before .before .before .before .before .before .before .before .args in
+    let m = abandonMemory (a .caps .ids) (a .caps .slots) (a .slot-marks .now) (a .batch .now) (a .tallies .now) in
+    let z = rowsAs-count _ _ _ (sym (c .before .before .before .before .before .before .check .ensures) ∙ c .before .before .before .before .n .given .1) in
+    let l = granted-lent m (z .0) in
+    (l .capacity, l .marks-long)
+
+put-requires : tie.Need-put-requires
+put-requires c κs = search needs
+
+same-length : tie.Need-same-length
+same-length c = search needs
+
+same-length-2 : tie.Need-same-length-2
+same-length-2 c = search needs
+
+same-length-3 : tie.Need-same-length-3
+same-length-3 c = search needs
+
+returns : tie.Need-returns
+returns c =
+    let a = c .before .before .before .before .before .before .before .before .before .before .args in
+    let m = abandonMemory (a .caps .ids) (a .caps .slots) (a .slot-marks .now) (a .batch .now) (a .tallies .now) in
+    let e = rowsAs-refused _ _ _ (sym (c .before .before .before .check .ensures) ∙ c .before .refusal .given .1) in
+    (sym (refused-answer m _ _ e), sym (refused-after m _ _ e))
+
+same-length-4 : tie.Need-same-length-4
+same-length-4 c = search needs
+
+same-length-5 : tie.Need-same-length-5
+same-length-5 c = search needs
+
+same-length-6 : tie.Need-same-length-6
+same-length-6 c = search needs
+
+returns-2 : tie.Need-returns-2
+returns-2 c =
+    let a = c .before .before .before .before .before .before .before .before .before .before .before .before .before .before .before .before .before .before .before .before .before .before .args in
+    let m = abandonMemory (a .caps .ids) (a .caps .slots) (a .slot-marks .now) (a .batch .now) (a .tallies .now) in
+    let z = rowsAs-count _ _ _ (sym (c .before .before .before .before .before .before .before .before .before .before .before .before .before .before .before .check .ensures) ∙ c .before .before .before .before .before .before .before .before .before .before .before .before .before .n .given .1) in
+    (sym (granted-answer m (z .0)), rw (c .before .before .put .ensures) (ap (λ (s : Slots). withKept (withSlots m s) (set (a .batch .now) 0 0)) (c .before .before .before .before .before .before .before .before .give-slots .ensures) ∙ sym (granted-after m (z .0) _ (z .1))))
+
+pub abandon-spec : {M : Type 1} → statement M
+abandon-spec =
+    tie.close
+    (tie.spec
+    check-requires
+    enum-known-refusal
+    enum-known-n
+    give-slots-requires
+    put-requires
+    same-length
+    same-length-2
+    same-length-3
+    returns
+    same-length-4
+    same-length-5
+    same-length-6
+    returns-2)

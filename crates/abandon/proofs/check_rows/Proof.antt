@@ -1,0 +1,76 @@
+-- The first row that is out of range. The invariant: the first bad row from row i on is the first bad row of all; what is left of n falls.
+-- Assumes nothing.
+use borrow.Author.Needs.{needs}
+use mathlib.Core.Path.{_≡_, refl, sym, ap, _∙_}
+use mathlib.Core.Bool.{true, false}
+use Prim.Native.Nat.{ℕ, _+_, _-_, _≤_}
+use native.Mathlib.Nat.{sub-zero}
+use native.Mathlib.Omega.{arith}
+use lib.ListN.{getD}
+use Rattle.kept.specs.Kept.{firstBad, rowsFrom, rowOutOfRange, rowsAs}
+use Rattle.kept.proofs.Laws.{firstBad-here, firstBad-next, firstBad-none}
+use Rattle.abandon.proofs.check_rows.Statement.{statement}
+use Rattle.abandon.proofs.check_rows.Tie as tie
+
+abbrev Inv-loop : tie.InvT-loop
+Inv-loop batch n ids slots i₀ i = (i ≤ n) × (firstBad (rowOutOfRange ids slots) 0 (rowsFrom batch n 0) ≡ firstBad (rowOutOfRange ids slots) i (rowsFrom batch (n - i) i))
+
+abbrev μ-loop : tie.MeasureT-loop
+μ-loop batch n ids slots i₀ i = n - i
+
+loop-holds : tie.Need-loop-holds Inv-loop μ-loop
+loop-holds c = (omega arith, rw sub-zero)
+
+get-requires : tie.Need-get-requires Inv-loop μ-loop
+get-requires c κs = search needs
+
+get-requires-2 : tie.Need-get-requires-2 Inv-loop μ-loop
+get-requires-2 c κs = search needs
+
+out-of-range-requires : tie.Need-out-of-range-requires Inv-loop μ-loop
+out-of-range-requires c κs = search needs
+
+at-requires : tie.Need-at-requires Inv-loop μ-loop
+at-requires c κs = search needs
+
+returns : tie.Need-returns Inv-loop μ-loop
+returns c =
+    let a = c .before .before .before .before .before .before .before .before .args in
+    let i = c .before .before .before .before .before .before .loop .i in
+    let bad : rowOutOfRange (a .caps .ids) (a .caps .slots) (getD (a .batch .now) (1 + i) 0, getD (a .batch .now) (257 + i) 0) ≡ true = cc in
+    simp (c .at .ensures, c .before .before .before .before .before .before .loop .inv .1, firstBad-here (rowOutOfRange (a .caps .ids) (a .caps .slots)) (a .batch .now) (a .n) i (c .before .before .before .before .before .loop-test .taken) bad)
+
+add-i : tie.Need-add-i Inv-loop μ-loop
+add-i c = omega arith
+
+loop-less : tie.Need-loop-less Inv-loop μ-loop
+loop-less c = omega arith
+
+loop-again : tie.Need-loop-again Inv-loop μ-loop
+loop-again c =
+    let a = c .before .before .before .before .before .before .before .args in
+    let i = c .before .before .before .before .before .loop .i in
+    let good : rowOutOfRange (a .caps .ids) (a .caps .slots) (getD (a .batch .now) (1 + i) 0, getD (a .batch .now) (257 + i) 0) ≡ false = cc in
+    (omega arith, c .before .before .before .before .before .loop .inv .1 ∙ firstBad-next _ _ _ _ (c .before .before .before .before .loop-test .taken) good)
+
+returns-2 : tie.Need-returns-2 Inv-loop μ-loop
+returns-2 c =
+    let a = c .before .before .before .args in
+    simp (c .before .loop .inv .1, firstBad-none (rowOutOfRange (a .caps .ids) (a .caps .slots)) (a .batch .now) (a .n) (c .before .loop .i) (c .loop-test .left))
+
+pub check-rows-spec : {M : Type 1} → statement M
+check-rows-spec =
+    tie.close
+    (tie.spec
+    Inv-loop
+    μ-loop
+    loop-holds
+    get-requires
+    get-requires-2
+    out-of-range-requires
+    at-requires
+    returns
+    add-i
+    loop-less
+    loop-again
+    returns-2)

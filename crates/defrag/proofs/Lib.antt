@@ -1,0 +1,4 @@
+pub mod Written
+pub mod Spans
+pub mod Moves
+pub mod Granted

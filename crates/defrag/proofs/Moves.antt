@@ -1,0 +1,92 @@
+-- The rows by the lent tables are the model's moves. A slab's marks count by its own words, and neither the tip nor the live slots tell
+-- pending from held. Assumes nothing.
+use mathlib.Core.Path.{_≡_, refl, ap, sym, _∙_}
+use mathlib.Core.Bool.{Bool, true, false, not, _&&_, and-assoc}
+use mathlib.Core.List.{List, [], _∷_, _++_}
+use Prim.Native.Nat.{ℕ, zero, suc, _+_, _-_, _*_, _<_, _≤_}
+use native.Mathlib.Numerals.{add-one}
+use native.Mathlib.Omega.{arith}
+use lib.Dec.{ltb, eqb}
+use lib.ListN.{length, getD, take, drop}
+use lib.Seq.{drop-cons, sets, sets-eq}
+use lib.Ieee.{Float}
+use Rattle.address.specs.Address.{packing, slabs}
+use Rattle.id_allocator.specs.Marks.{isTaken, countIf, tip}
+use Rattle.id_allocator.specs.Counted.{counted, hinted}
+use Rattle.id_allocator.proofs.LawsCounted.{counted-live, counted-tip}
+use Rattle.fragmentation.specs.Cutoff.{cutoff}
+use Rattle.model.specs.Store.{Store, Row}
+use Rattle.model.specs.Tables.{part, slabTip, live, locationOf, inIds}
+use Rattle.model.specs.Defrag.{consIf, movable, movesIn, slabMoves, movesFrom, allMoves}
+use Rattle.model.specs.Memory.{Memory, read, word, hintWords, waitingWords, usedWords}
+use Rattle.model.proofs.Slabs.{part-countedSlabs}
+use Rattle.model.proofs.Tables.{part-at}
+use Rattle.defrag.specs.Listed.{movableAt, rowOf, rowsOf, marksOf, tipIn, spanOf, rowsIn, slabRows, rowsFrom}
+use Rattle.defrag.proofs.Spans.{span-in, inside}
+
+-- ---- of a slab
+
+consIf-append : (b : Bool) (r : Row) (rs : List Row) → consIf b r rs ≡ consIf b r [] ++ rs
+consIf-append true r rs = refl
+consIf-append false r rs = refl
+
+moves-are : (s : Store) → length (s .locations) ≡ s .ids → (k j n : ℕ) → k * s .slots + j + n ≤ length (s .owners)
+    → rowsOf (s .locations) (packing k j) (take n (drop (k * s .slots + j) (s .owners))) ≡ movesIn s k j n
+unfolding rowsOf rowOf
+moves-are s len k j zero h = refl
+moves-are s len k j (suc n) h =
+    ap (λ os. rowsOf (s .locations) (packing k j) (take (suc n) os)) (drop-cons (s .owners) (k * s .slots + j) 0 (omega arith))
+    ∙ ap (λ rs. rowOf (s .locations) (packing k j) o ++ rs) (rw (up, at) (moves-are s len k (suc j) n (omega arith)))
+    ∙ one
+  where
+    o : ℕ
+    o = getD (s .owners) (k * s .slots + j) 0
+
+    up : packing k j + 1 ≡ packing k (suc j)
+    up = omega arith
+
+    at : suc (k * s .slots + j) ≡ k * s .slots + suc j
+    at = omega arith
+
+    one : rowOf (s .locations) (packing k j) o ++ movesIn s k (suc j) n ≡ movesIn s k j (suc n)
+    one = ap (λ x. consIf (ltb 0 o && ltb o x && eqb (getD (s .locations) o 0) (packing k j)) (o, packing k j) [] ++ movesIn s k (suc j) n) len
+        ∙ sym (consIf-append (movable s k j o) (o, packing k j) (movesIn s k (suc j) n))
+
+module _ (m : Memory) (r : Float) (low : 1 ≤ m .slots) (locations : length (m .locations) ≡ m .ids)
+    (marks : length (m .slotMarks) ≡ 78 * m .slots) (owners : length (m .owners) ≡ 78 * m .slots) where
+  slab-part : (k : ℕ) → k < 78 → part (m .slots) (read m .slotMarks) k ≡ counted (word (m .tallies) hintWords (suc k)) (word (m .tallies) waitingWords (suc k)) (part (m .slots) (m .slotMarks) k)
+  unfolding read
+  slab-part k h =
+      let z : 0 + k ≡ k = omega arith in
+      rw z at (part-countedSlabs (m .slots) (m .tallies) slabs 0 (m .slotMarks) k marks h)
+
+  tip-is : (k : ℕ) → k < 78 → tipIn (m .slots) (m .slotMarks) (m .tallies) k ≡ slabTip (read m) k
+  unfolding read
+  tip-is k h =
+      sym (counted-tip (word (m .tallies) hintWords (suc k)) (word (m .tallies) waitingWords (suc k)) (part (m .slots) (m .slotMarks) k) (word (m .tallies) usedWords (suc k)))
+      ∙ sym (λ i. tip (slab-part k h i) (part-at 79 (m .tallies) 2 (suc k) (omega arith) i))
+
+  live-is : (k : ℕ) → k < 78 → countIf isTaken (marksOf (m .slots) (m .slotMarks) (m .tallies) k) ≡ live (read m) k
+  unfolding read
+  live-is k h =
+      sym (counted-live (word (m .tallies) hintWords (suc k)) (word (m .tallies) waitingWords (suc k)) (part (m .slots) (m .slotMarks) k))
+      ∙ ap (countIf isTaken) (sym (slab-part k h))
+
+  slab-moves : (k : ℕ) → k < 78 → slabRows (m .slots) (m .locations) (m .slotMarks) (m .owners) (m .tallies) r k ≡ slabMoves (read m) r k (slabTip (read m) k)
+  unfolding slabRows spanOf read
+  slab-moves k h =
+      let s = span-in (m .slots) (m .slotMarks) (m .tallies) k low h marks r in
+      let t = tipIn (m .slots) (m .slotMarks) (m .tallies) k in
+      let f = cutoff (countIf isTaken (marksOf (m .slots) (m .slotMarks) (m .tallies) k)) t r in
+      moves-are (read m) locations k f (t - f) (omega (arith, inside (m .slots) k h))
+      ∙ (λ i. movesIn (read m) k (cutoff (live-is k h i) (tip-is k h i) r) (tip-is k h i - cutoff (live-is k h i) (tip-is k h i) r))
+
+  rows-from : (n k : ℕ) → k + n ≤ 78 → rowsFrom (m .slots) (m .locations) (m .slotMarks) (m .owners) (m .tallies) r n k ≡ movesFrom (read m) r n k
+  unfolding rowsFrom movesFrom
+  rows-from zero k h = refl
+  rows-from (suc n) k h =
+      let e : k + 1 ≡ suc k = omega arith in
+      λ i. slab-moves k (omega arith) i ++ (ap (rowsFrom (m .slots) (m .locations) (m .slotMarks) (m .owners) (m .tallies) r n) e ∙ rows-from n (suc k) (omega arith)) i
+
+  pub rows-are : rowsFrom (m .slots) (m .locations) (m .slotMarks) (m .owners) (m .tallies) r 78 0 ≡ allMoves (read m) r
+  rows-are = rows-from 78 0 (omega arith)

@@ -1,0 +1,2 @@
+pub mod LawsNewId
+pub mod LawsCounts

@@ -1,0 +1,87 @@
+-- `object_ids::counters` meets its contract: the lists' lengths, then what `stats` answers; its answer tells whether the pairs are copied.
+-- Assumes nothing.
+use mathlib.Core.Path.{sym, ap, _∙_}
+use native.Mathlib.Omega.{arith}
+use borrow.Author.Needs.{needs}
+use Rattle.object_ids.specs.declared.counts.Counted.the-variants as C
+use Rattle.object_ids.specs.Counts.{countersAnswer, statsAnswer, grantedIn, freedIn}
+use Rattle.object_ids.proofs.LawsCounts.{counters-length, listed-first, listed-second, listed-both}
+use Rattle.object_ids.proofs.counts.counters.Statement.{statement}
+use Rattle.object_ids.proofs.counts.counters.Tie as tie
+
+of-requires : tie.Need-of-requires
+of-requires c κs = search needs
+
+returns : tie.Need-returns
+returns c =
+    let g = c .before .before .before .before .before .args .granted .now in
+    let f = c .before .before .before .before .before .args .freed .now in
+    let r = sym (listed-first g f _ (c .before .if1 .taken)) in
+    ((λ i. countersAnswer g f (C.Refused (c .of .ensures i))) ∙ r, (ap (λ a. grantedIn a g) r, ap (λ a. freedIn a f) r))
+
+of-requires-2 : tie.Need-of-requires-2
+of-requires-2 c κs = search needs
+
+returns-2 : tie.Need-returns-2
+returns-2 c =
+    let g = c .before .before .before .before .before .before .args .granted .now in
+    let f = c .before .before .before .before .before .before .args .freed .now in
+    let r = sym (listed-second g f _ (c .before .before .if1 .left) (c .before .if2 .taken)) in
+    ((λ i. countersAnswer g f (C.Refused (c .of2 .ensures i))) ∙ r, (ap (λ a. grantedIn a g) r, ap (λ a. freedIn a f) r))
+
+stats-requires : tie.Need-stats-requires
+stats-requires c κs = search needs
+
+enum-known-stats : tie.Need-enum-known-stats
+enum-known-stats c = search needs
+
+copy-words-requires : tie.Need-copy-words-requires
+copy-words-requires c κs =
+    let l = counters-length _ _ _ _ (sym (ap (statsAnswer (c .before .before .before .before .before .before .before .before .before .before .args .tallies .now)) (c .before .before .stats2 .given .1)) ∙ c .before .before .before .before .stats .ensures) in
+    (omega arith, c .before .before .before .before .before .before .if1 .left)
+
+copy-words-requires-2 : tie.Need-copy-words-requires-2
+copy-words-requires-2 c κs =
+    let l = counters-length _ _ _ _ (sym (ap (statsAnswer (c .before .before .before .before .before .before .before .before .before .before .before .before .before .before .args .tallies .now)) (c .before .before .before .before .before .before .stats2 .given .1)) ∙ c .before .before .before .before .before .before .before .before .stats .ensures) in
+    (omega arith, c .before .before .before .before .before .before .before .before .before .if2 .left)
+
+enum-known-refusal : tie.Need-enum-known-refusal
+enum-known-refusal c = search needs
+
+same-length : tie.Need-same-length
+same-length c = search needs
+
+same-length-2 : tie.Need-same-length-2
+same-length-2 c = search needs
+
+returns-3 : tie.Need-returns-3
+returns-3 c =
+    let g = c .before .before .before .before .before .before .before .before .before .before .before .before .before .before .before .before .before .args .granted .now in
+    let f = c .before .before .before .before .before .before .before .before .before .before .before .before .before .before .before .before .before .args .freed .now in
+    let r = sym (ap (statsAnswer (c .before .before .before .before .before .before .before .before .before .before .before .before .before .before .before .before .before .args .tallies .now)) (c .before .before .before .before .before .before .before .before .before .stats2 .given .1)) ∙ c .before .before .before .before .before .before .before .before .before .before .before .stats .ensures ∙ sym (listed-both g f _ (c .before .before .before .before .before .before .before .before .before .before .before .before .before .if1 .left) (c .before .before .before .before .before .before .before .before .before .before .before .before .if2 .left)) in
+    ((λ i. countersAnswer (c .before .before .before .before .before .before .copy-words .ensures i) (c .before .before .copy-words2 .ensures i) (C.Stats (c .before .before .before .before .before .before .before .before .before .stats2 .given .0 .0))) ∙ r, (c .before .before .before .before .before .before .copy-words .ensures ∙ ap (λ a. grantedIn a g) r, c .before .before .copy-words2 .ensures ∙ ap (λ a. freedIn a f) r))
+
+returns-4 : tie.Need-returns-4
+returns-4 c =
+    let g = c .before .before .before .before .before .before .before .before .before .args .granted .now in
+    let f = c .before .before .before .before .before .before .before .before .before .args .freed .now in
+    let r = sym (ap (statsAnswer (c .before .before .before .before .before .before .before .before .before .args .tallies .now)) (c .before .refusal .given .1)) ∙ c .before .before .before .stats .ensures ∙ sym (listed-both g f _ (c .before .before .before .before .before .if1 .left) (c .before .before .before .before .if2 .left)) in
+    (r, (ap (λ a. grantedIn a g) r, ap (λ a. freedIn a f) r))
+
+pub counters-spec : {M : Type 1} → statement M
+counters-spec =
+    tie.close
+    (tie.spec
+    of-requires
+    returns
+    of-requires-2
+    returns-2
+    stats-requires
+    enum-known-stats
+    copy-words-requires
+    copy-words-requires-2
+    enum-known-refusal
+    same-length
+    same-length-2
+    returns-3
+    returns-4)

@@ -1,0 +1,61 @@
+-- `object_ids::hold_id` meets its contract: what its callees write, one after the other. Assumes nothing.
+use borrow.Author.Needs.{needs}
+use Rattle.object_ids.proofs.new_id.hold_id.Statement.{statement}
+use Rattle.object_ids.proofs.new_id.hold_id.Tie as tie
+
+slice-read-first : tie.Need-slice-read-first
+slice-read-first c = search needs
+
+get-requires : tie.Need-get-requires
+get-requires c κs = search needs
+
+put-requires : tie.Need-put-requires
+put-requires c κs = search needs
+
+held-requires : tie.Need-held-requires
+held-requires c κs = search needs
+
+put-requires-2 : tie.Need-put-requires-2
+put-requires-2 c κs = search needs
+
+taken-requires : tie.Need-taken-requires
+taken-requires c κs = search needs
+
+add-requires : tie.Need-add-requires
+add-requires c κs = search needs
+
+put-requires-3 : tie.Need-put-requires-3
+put-requires-3 c κs = search needs
+
+add-put : tie.Need-add-put
+add-put c = search needs
+
+put-requires-4 : tie.Need-put-requires-4
+put-requires-4 c κs = search needs
+
+same-length : tie.Need-same-length
+same-length c = search needs
+
+same-length-2 : tie.Need-same-length-2
+same-length-2 c = search needs
+
+returns : tie.Need-returns
+returns c = ((cc), (cc))
+
+pub hold-id-spec : {M : Type 1} → statement M
+hold-id-spec =
+    tie.close
+    (tie.spec
+    slice-read-first
+    get-requires
+    put-requires
+    held-requires
+    put-requires-2
+    taken-requires
+    add-requires
+    put-requires-3
+    add-put
+    put-requires-4
+    same-length
+    same-length-2
+    returns)

@@ -1,0 +1,2 @@
+pub mod NewIds
+pub mod Counts

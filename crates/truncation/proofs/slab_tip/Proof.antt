@@ -1,0 +1,65 @@
+-- `truncation::slab_tip` meets its contract: the slab's marks are a part of the slot marks, which lies within them (slab-within). Assumes
+-- nothing.
+use mathlib.Core.Path.{ap, _∙_}
+use Prim.Native.Nat.{_+_}
+use native.Mathlib.Numerals.{add-one}
+use native.Mathlib.Omega.{arith}
+use lib.ListN.{getD}
+use borrow.Author.Needs.{needs}
+use Rattle.id_allocator.specs.Marks.{tip}
+use Rattle.id_allocator.specs.Counted.{hinted}
+use Rattle.truncation.proofs.Laws.{slab-within, part-of}
+use Rattle.truncation.proofs.slab_tip.Statement.{statement}
+use Rattle.truncation.proofs.slab_tip.Tie as tie
+
+mul-start : tie.Need-mul-start
+mul-start c = let w = slab-within (c .before .before .args .slab) (c .before .before .args .slots) (c .before .before .pre .0) in record { fits = omega arith }
+
+add-end : tie.Need-add-end
+add-end c = let w = slab-within (c .before .before .args .slab) (c .before .before .args .slots) (c .before .before .pre .0) in record { fits = omega arith }
+
+add-get : tie.Need-add-get
+add-get c = search needs
+
+get-requires : tie.Need-get-requires
+get-requires c κs = search needs
+
+add-get-2 : tie.Need-add-get-2
+add-get-2 c = search needs
+
+get-requires-2 : tie.Need-get-requires-2
+get-requires-2 c κs = search needs
+
+sub-tip : tie.Need-sub-tip
+sub-tip c = search needs
+
+part-tip-start : tie.Need-part-tip-start
+part-tip-start c = search needs
+
+part-tip-end : tie.Need-part-tip-end
+part-tip-end c = let w = slab-within (c .before .before .before .before .args .slab) (c .before .before .before .before .args .slots) (c .before .before .before .before .pre .0) in omega arith
+
+tip-requires : tie.Need-tip-requires
+tip-requires c κs = search needs
+
+returns : tie.Need-returns
+returns c =
+    let a = c .before .before .before .before .before .before .args in
+    let g = a .tallies .now in
+    c .tip .ensures ∙ λ i. tip (hinted ((c .before .before .before .get .ensures ∙ ap (λ x. getD g (237 + x) 0) (add-one (a .slab))) i) (part-of (a .slab) (a .slots) (a .slot-marks .now) i)) ((c .before .before .get2 .ensures ∙ ap (λ x. getD g (158 + x) 0) (add-one (a .slab))) i)
+
+pub slab-tip-spec : {M : Type 1} → statement M
+slab-tip-spec =
+    tie.close
+    (tie.spec
+    mul-start
+    add-end
+    add-get
+    get-requires
+    add-get-2
+    get-requires-2
+    sub-tip
+    part-tip-start
+    part-tip-end
+    tip-requires
+    returns)

@@ -1,0 +1,94 @@
+-- `truncation::truncation` meets its contract: `ask` gives the refusal or the tip, and by the tip the laws truncation-answer and truncation-
+-- after say what is answered and written. Assumes nothing.
+use mathlib.Core.Path.{sym, ap, _∙_}
+use mathlib.Core.Bool.{cond}
+use native.Mathlib.Omega.{arith}
+use borrow.Author.Needs.{needs}
+use Rattle.model.specs.Store.{keep}
+use Rattle.truncation.specs.Truncations.{slabMemory, askedAnswer, isCut, cutWith}
+use Rattle.truncation.proofs.Laws.{asked-tip, asked-refused, isCut-tip, truncation-answer, truncation-after, truncation-refused}
+use Rattle.truncation.proofs.truncation.Statement.{statement}
+use Rattle.truncation.proofs.truncation.Tie as tie
+
+ask-requires : tie.Need-ask-requires
+ask-requires c κs = search needs
+
+enum-known-tip : tie.Need-enum-known-tip
+enum-known-tip c = search needs
+
+get-requires : tie.Need-get-requires
+get-requires c κs = search needs
+
+raise-requires : tie.Need-raise-requires
+raise-requires c κs = search needs
+
+is-cut-requires : tie.Need-is-cut-requires
+is-cut-requires c κs =
+    let a = c .before .before .before .before .before .before .before .before .before .before .before .before .before .before .args in
+    let q = asked-tip (slabMemory (a .caps) (a .slot-marks .now) (a .batch .now) (a .tallies .now)) (a .slab) (a .t) _ (sym (ap askedAnswer (c .before .before .before .before .before .before .before .tip .given .1)) ∙ c .before .before .before .before .before .before .before .before .before .ask .ensures) in
+    (q .slab, q .small, omega (arith, q .high, c .before .before .before .before .get .ensures))
+
+cut-of-requires : tie.Need-cut-of-requires
+cut-of-requires c κs =
+    let a = c .before .before .before .before .before .before .before .before .before .before .before .before .before .before .before .before .args in
+    let q = asked-tip (slabMemory (a .caps) (a .slot-marks .now) (a .batch .now) (a .tallies .now)) (a .slab) (a .t) _ (sym (ap askedAnswer (c .before .before .before .before .before .before .before .before .before .tip .given .1)) ∙ c .before .before .before .before .before .before .before .before .before .before .before .ask .ensures) in
+    (q .slab, q .small, isCut-tip _ _ _ _ (sym (c .before .is-cut .ensures) ∙ c .if1 .taken))
+
+same-length : tie.Need-same-length
+same-length c = search needs
+
+returns : tie.Need-returns
+returns c =
+    let a = c .before .before .before .before .before .before .before .before .before .before .before .before .before .before .before .before .before .args in
+    let m = slabMemory (a .caps) (a .slot-marks .now) (a .batch .now) (a .tallies .now) in
+    let tip = c .before .before .before .before .before .before .before .before .before .before .tip .given .0 .0 in
+    let q = asked-tip m (a .slab) (a .t) tip (sym (ap askedAnswer (c .before .before .before .before .before .before .before .before .before .before .tip .given .1)) ∙ c .before .before .before .before .before .before .before .before .before .before .before .before .ask .ensures) in
+    let cuts = ap (λ h. isCut (a .slab) h (a .t) tip) (sym (c .before .before .before .before .before .before .before .get .ensures)) ∙ sym (c .before .before .is-cut .ensures) ∙ c .before .if1 .taken in (
+      c .cut-of .ensures ∙ ap (λ b. cond b (cutWith (a .slab) tip) keep) (sym cuts) ∙ sym (truncation-answer m (a .slab) (a .t) tip q),
+      (λ i. slabMemory (a .caps) (a .slot-marks .now) (a .batch .now) (c .before .before .before .before .before .raise .ensures i)) ∙ sym (truncation-after m (a .slab) (a .t) tip q),
+    )
+
+enum-known-refusal : tie.Need-enum-known-refusal
+enum-known-refusal c = search needs
+
+same-length-2 : tie.Need-same-length-2
+same-length-2 c = search needs
+
+returns-2 : tie.Need-returns-2
+returns-2 c =
+    let a = c .before .before .before .before .before .before .before .before .before .before .before .before .before .before .before .before .args in
+    let m = slabMemory (a .caps) (a .slot-marks .now) (a .batch .now) (a .tallies .now) in
+    let tip = c .before .before .before .before .before .before .before .before .before .tip .given .0 .0 in
+    let q = asked-tip m (a .slab) (a .t) tip (sym (ap askedAnswer (c .before .before .before .before .before .before .before .before .before .tip .given .1)) ∙ c .before .before .before .before .before .before .before .before .before .before .before .ask .ensures) in
+    let cuts = ap (λ h. isCut (a .slab) h (a .t) tip) (sym (c .before .before .before .before .before .before .get .ensures)) ∙ sym (c .before .is-cut .ensures) ∙ c .if1 .left in (
+      ap (λ b. cond b (cutWith (a .slab) tip) keep) (sym cuts) ∙ sym (truncation-answer m (a .slab) (a .t) tip q),
+      (λ i. slabMemory (a .caps) (a .slot-marks .now) (a .batch .now) (c .before .before .before .before .raise .ensures i)) ∙ sym (truncation-after m (a .slab) (a .t) tip q),
+    )
+
+same-length-3 : tie.Need-same-length-3
+same-length-3 c = search needs
+
+returns-3 : tie.Need-returns-3
+returns-3 c =
+    let a = c .before .before .before .before .before .before .before .before .args in
+    let m = slabMemory (a .caps) (a .slot-marks .now) (a .batch .now) (a .tallies .now) in
+    let r = truncation-refused m (a .slab) (a .t) _ _ (asked-refused m (a .slab) (a .t) _ _ (sym (ap askedAnswer (c .before .refusal .given .1)) ∙ c .before .before .before .ask .ensures)) in
+    (sym (r .0), sym (r .1))
+
+pub truncation-spec : {M : Type 1} → statement M
+truncation-spec =
+    tie.close
+    (tie.spec
+    ask-requires
+    enum-known-tip
+    get-requires
+    raise-requires
+    is-cut-requires
+    cut-of-requires
+    same-length
+    returns
+    enum-known-refusal
+    same-length-2
+    returns-2
+    same-length-3
+    returns-3)
