@@ -1,0 +1,4 @@
+pub mod LawsUpdates
+pub mod LawsRoom
+pub mod LawsPlaces
+pub mod LawsOffer

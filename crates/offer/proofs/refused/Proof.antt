@@ -1,0 +1,46 @@
+-- `offer::refused` meets its contract: a verdict that refuses decides, else the next one does. Assumes nothing.
+use mathlib.Core.Path.{ap, _∙_}
+use borrow.Author.Needs.{needs}
+use Rattle.offer.specs.Room.{roomIn}
+use Rattle.offer.proofs.LawsOffer.{seq-stop, seq-on}
+use Rattle.offer.proofs.refused.Statement.{statement}
+use Rattle.offer.proofs.refused.Tie as tie
+
+check-requires : tie.Need-check-requires
+check-requires c κs = search needs
+
+enum-told : tie.Need-enum-told
+enum-told c = search needs
+
+enum-told-2 : tie.Need-enum-told-2
+enum-told-2 c = search needs
+
+returns : tie.Need-returns
+returns c = seq-stop (c .before .before .check .result) _ _ _ (c .before .before .check .ensures) (c .enum-told2 .given .1)
+
+tally-requires : tie.Need-tally-requires
+tally-requires c κs = search needs
+
+slice-aggregate-room : tie.Need-slice-aggregate-room
+slice-aggregate-room c = search needs
+
+room-requires : tie.Need-room-requires
+room-requires c κs = search needs
+
+returns-2 : tie.Need-returns-2
+returns-2 c =
+    let a = c .before .before .before .before .before .before .before .before .before .before .before .before .before .args in
+    c .room .ensures ∙ ap (λ t. roomIn (a .caps .slots) (a .slot-marks .now) (a .tallies .now) t 78 0) (c .before .before .tally .ensures) ∙ seq-on (c .before .before .before .before .before .check .result) _ _ (c .before .before .before .before .before .check .ensures) (c .before .before .before .enum-told .given .1)
+
+pub refused-spec : {M : Type 1} → statement M
+refused-spec =
+    tie.close
+    (tie.spec
+    check-requires
+    enum-told
+    enum-told-2
+    returns
+    tally-requires
+    slice-aggregate-room
+    room-requires
+    returns-2)

@@ -1,0 +1,156 @@
+// A batch is offered (document 01, "Ids, slots, pending"): its slots are taken in list order, and the store keeps it until it is committed
+// or abandoned.
+//
+//     // ids 4 and 7 get objects of 3 and 300 bytes, 5 is freed
+//     match offer::offer(caps, &id_marks, &locations, &mut slot_marks, &owners, &mut batch, &mut tallies,
+//         &[4, 7, 5], &[true, true, false], &[3, 300, 0], &mut placed) {
+//         Offered::Done => ..,              // placed has a packed location for each update, 0 for the Free
+//         Offered::Refused(refusal) => ..,  // nothing is written
+//     }
+//
+// What could refuse only reads; what is written comes after it and cannot fail. Whether a slab has slots enough is told by the searches
+// that would take them, so that no slab is counted.
+ghost use mathlib.Core.Path.{_≡_};
+ghost use mathlib.Core.List.{[]};
+ghost use Rattle.model.specs.Verdict.{_⨾_};
+ghost use Rattle.offer.specs.Outcome.{answerOf, memoryOf, Left, offerLeaves};
+ghost use Rattle.offer.specs.Verdicts.{verdictOf, offerFits};
+ghost use Rattle.offer.specs.Kinds.{checkIn};
+ghost use Rattle.offer.specs.Room.{roomIn, tallied, noneAsked};
+
+mod places;
+mod room;
+mod updates;
+
+use refusal::Refusal;
+use tables::Capacities;
+use tables::MOST_UPDATES;
+use tables::all_fit;
+use tables::both;
+use tables::get;
+
+// The lent list has the locations where it is `Done`.
+pub enum Offered {
+    Done,
+    Refused(Refusal),
+}
+
+// Refusal 1, by lengths.
+fn fits(
+    caps: Capacities,
+    id_marks: usize,
+    locations: usize,
+    slot_marks: usize,
+    owners: usize,
+    batch: usize,
+    tallies: usize,
+    ids: usize,
+    stores: usize,
+    lengths: usize,
+    placed: usize,
+) -> bool
+    ensures { λ r. ⌜ r ≡ offerFits (caps .ids) (caps .slots) «id_marks» locations «slot_marks» owners batch tallies ids stores lengths placed ⌝ }
+{
+    both(
+        all_fit(
+            caps,
+            id_marks,
+            locations,
+            slot_marks,
+            owners,
+            batch,
+            tallies,
+        ),
+        both(both(stores == ids, lengths == ids), placed == ids),
+    )
+}
+
+// The refusals that speak of updates and of slabs. `slabs` has the slab of each update.
+fn refused(
+    caps: Capacities,
+    id_marks: &[u8],
+    locations: &[u64],
+    slot_marks: &[u8],
+    owners: &[u64],
+    tallies: &[u64],
+    ids: &[u64],
+    slabs: &[usize],
+) -> Offered
+    ensures { λ r. ⌜ verdictOf r ≡ (checkIn (memoryOf (caps .ids) (caps .slots) (now («id_marks» .entry)) (now (locations .entry)) (now («slot_marks» .entry)) (now (owners .entry)) [] (now (tallies .entry))) [] 0 (now (ids .entry)) (now (slabs .entry)) ⨾ roomIn (caps .slots) (now («slot_marks» .entry)) (now (tallies .entry)) (tallied noneAsked (now (slabs .entry))) 78 0) ⌝ }
+{
+    let slots = caps.slots;
+    let checked = updates::check(
+        caps,
+        id_marks,
+        locations,
+        slot_marks,
+        owners,
+        tallies,
+        ids,
+        slabs,
+    );
+    let Offered::Done = checked else {
+        return checked;
+    };
+    let asked = room::tally(slabs);
+    room::room(slots, slot_marks, tallies, &asked)
+}
+
+// The refusals in their order; then the slots are taken, the list is written, and the batch is kept.
+pub fn offer(
+    caps: Capacities,
+    id_marks: &[u8],
+    locations: &[u64],
+    slot_marks: &mut [u8],
+    owners: &[u64],
+    batch: &mut [u64],
+    tallies: &mut [u64],
+    ids: &[u64],
+    stores: &[bool],
+    lengths: &[u64],
+    placed: &mut [u64],
+) -> Offered
+    ensures { λ r. ⌜ _≡_ {A = Left} (record { answer = answerOf r (now (placed .exit)); slotMarks = now («slot_marks» .exit); batch = now (batch .exit); tallies = now (tallies .exit); placed = now (placed .exit) }) (offerLeaves (memoryOf (caps .ids) (caps .slots) (now («id_marks» .entry)) (now (locations .entry)) (now («slot_marks» .entry)) (now (owners .entry)) (now (batch .entry)) (now (tallies .entry))) (now (ids .entry)) (now (stores .entry)) (now (lengths .entry)) (now (placed .entry))) ⌝ }
+{
+    let n = ids.len();
+    let slots = caps.slots;
+    if !fits(
+        caps,
+        id_marks.len(),
+        locations.len(),
+        slot_marks.len(),
+        owners.len(),
+        batch.len(),
+        tallies.len(),
+        n,
+        stores.len(),
+        lengths.len(),
+        placed.len(),
+    ) {
+        return Offered::Refused(Refusal::of(Refusal::WRONG_SHAPE));
+    }
+    if get(batch, 0, 0) != 0 {
+        return Offered::Refused(Refusal::of(Refusal::BATCH_OPEN));
+    }
+    if n > MOST_UPDATES {
+        return Offered::Refused(Refusal::of(Refusal::TOO_MANY));
+    }
+    let all = updates::kinds(stores, lengths);
+    let slabs = &all[..n];
+    let verdict = refused(
+        caps,
+        id_marks,
+        locations,
+        slot_marks,
+        owners,
+        tallies,
+        ids,
+        slabs,
+    );
+    let Offered::Done = verdict else {
+        return verdict;
+    };
+    places::place(slots, slot_marks, tallies, slabs, placed);
+    places::keep(batch, ids, placed, n as u64 + 1);
+    Offered::Done
+}

@@ -1,0 +1,69 @@
+// Refusal 10: the lowest slab that is asked for more slots than it has free.
+ghost use mathlib.Core.Path.{_≡_};
+ghost use Prim.Native.Nat.{_≤_};
+ghost use lib.Dec.{ltb};
+ghost use Rattle.id_allocator.specs.Marks.{isFree, countIf};
+ghost use Rattle.id_allocator.specs.Counted.{hinted};
+ghost use Rattle.offer.specs.Verdicts.{verdictOf};
+ghost use Rattle.offer.specs.Room.{freeIn, roomIn, tallied, noneAsked};
+use crate::Offered;
+use refusal::Refusal;
+use tables::HINT;
+use tables::SLABS;
+use tables::add;
+use tables::get;
+use tables::slab_marks;
+
+// How many updates ask for a slot of each slab.
+pub fn tally(slabs: &[usize]) -> [u64; 78]
+    ensures { λ r. ⌜ r ≡ tallied noneAsked (now (slabs .entry)) ⌝ }
+{
+    let mut asked = [0u64; 78];
+    let mut i: usize = 0;
+    while i < slabs.len() {
+        add(&mut asked, 0, slabs[i], 1);
+        i += 1;
+    }
+    asked
+}
+
+// Whether fewer than `asked` are free. Each search finds one more.
+fn lacks(marks: &[u8], hint: usize, asked: u64) -> bool
+    ensures { λ r. ⌜ r ≡ ltb (countIf isFree (hinted hint (now (marks .entry)))) asked ⌝ }
+{
+    let mut from: usize = 0;
+    let mut left = asked;
+    while 0 < left {
+        let at = id_allocator::smallest_free(marks, hint, from);
+        if marks.len() <= at {
+            return true;
+        }
+        from = at + 1;
+        left -= 1;
+    }
+    false
+}
+
+fn slab_lacks(slots: usize, slot_marks: &[u8], tallies: &[u64], slab: usize, asked: u64) -> bool
+    requires { ⌜ slab ≤ 78 ⌝ }
+    ensures { λ r. ⌜ r ≡ ltb (freeIn slots (now («slot_marks» .entry)) (now (tallies .entry)) slab) asked ⌝ }
+{
+    if asked == 0 {
+        return false;
+    }
+    let hint = get(tallies, HINT, slab + 1) as usize;
+    lacks(slab_marks(slot_marks, slots, slab), hint, asked)
+}
+
+pub fn room(slots: usize, slot_marks: &[u8], tallies: &[u64], asked: &[u64]) -> Offered
+    ensures { λ r. ⌜ verdictOf r ≡ roomIn slots (now («slot_marks» .entry)) (now (tallies .entry)) (now (asked .entry)) 78 0 ⌝ }
+{
+    let mut slab: usize = 0;
+    while slab < SLABS {
+        if slab_lacks(slots, slot_marks, tallies, slab, get(asked, 0, slab)) {
+            return Offered::Refused(Refusal::at(Refusal::NONE_FREE, slab));
+        }
+        slab += 1;
+    }
+    Offered::Done
+}

@@ -1,0 +1,84 @@
+// A file of single calls: nothing is carried from line to line. Whether each answers as its line says; a line that cannot be read does not.
+use crate::addresses;
+use crate::checks;
+use crate::classes;
+use crate::cookies;
+use crate::cutoffs;
+use crate::file;
+use crate::frames;
+use crate::source;
+use crate::tally::Tally;
+use crate::words;
+
+// Makes the call of this name; its arguments and its answer are the words after the name.
+fn call(name: &[u8], rest: &[u8]) -> bool {
+    if check::same(name, b"class") {
+        return classes::class(rest);
+    }
+    if check::same(name, b"crc") {
+        return checks::crc(rest);
+    }
+    if check::same(name, b"cutoff") {
+        return cutoffs::cutoff(rest);
+    }
+    call_on_bytes(name, rest)
+}
+
+fn call_on_bytes(name: &[u8], rest: &[u8]) -> bool {
+    if check::same(name, b"frame") {
+        return frames::frame(rest);
+    }
+    if check::same(name, b"unframe") {
+        return frames::unframe(rest);
+    }
+    if check::same(name, b"cookie") {
+        return cookies::cookie(rest);
+    }
+    if check::same(name, b"uncookie") {
+        return cookies::uncookie(rest);
+    }
+    call_on_addresses(name, rest)
+}
+
+fn call_on_addresses(name: &[u8], rest: &[u8]) -> bool {
+    if check::same(name, b"pack") {
+        return addresses::pack(rest);
+    }
+    if check::same(name, b"unpack") {
+        return addresses::unpack(rest);
+    }
+    false
+}
+
+fn agrees(line: &[u8]) -> bool {
+    source::is_call(line) && call(words::word(line, 1), words::after(line, 2))
+}
+
+fn with_line(tally: Tally, name: &[u8], line: &[u8]) -> Tally {
+    let counted = tally.with_line();
+    if source::is_remark(line) {
+        return counted;
+    }
+    let called = counted.with_call(source::is_rust(line));
+    if agrees(line) {
+        called
+    } else {
+        called.with_difference(name)
+    }
+}
+
+fn each_line(name: &[u8], text: &[u8]) -> Tally {
+    let mut tally = Tally::new();
+    let mut at = 0;
+    while at < text.len() {
+        tally = with_line(tally, name, file::line_at(text, at));
+        at = file::next_line(text, at);
+    }
+    tally
+}
+
+pub fn file(name: &[u8]) {
+    let mut space = file::space();
+    let n = file::load(name, &mut space);
+    each_line(name, &space[..n]).say(name);
+}
