@@ -24,7 +24,7 @@ use Rattle.address.specs.declared.Unpacked.the-variants as U
 use Rattle.address.proofs.Unpacked.{the-type}
 use Rattle.model.specs.Store.{Store, Row}
 use Rattle.model.specs.Verdict.{Verdict, ok, refuse, _⨾_, test}
-use Rattle.model.specs.Tables.{part, pairs, kept}
+use Rattle.model.specs.Tables.{part, pairs, kept, badLocation}
 use Rattle.model.specs.Step.{oneOpen}
 use Rattle.model.specs.Memory.{Memory, read}
 use Rattle.model.specs.MemoryAfter.{putPart}
@@ -78,6 +78,12 @@ pub abandonRows-first : (s : Store) (bad : Row → Bool) → ((r : Row) → badR
 unfolding firstBad
 abandonRows-first s bad h i [] = refl
 abandonRows-first s bad h i (r ∷ rs) = λ k. test (h r k) tablesDisagree i ⨾ abandonRows-first s bad h (suc i) rs k
+
+pub commitRows-first : (s : Store) (bad : Row → Bool) → ((r : Row) → (badRow s r || badLocation s (r .0)) ≡ bad r) → (i : ℕ) (rs : List Row)
+    → commitRows s i rs ≡ firstBad bad i rs
+unfolding firstBad
+commitRows-first s bad h i [] = refl
+commitRows-first s bad h i (r ∷ rs) = λ k. test (h r k) tablesDisagree i ⨾ commitRows-first s bad h (suc i) rs k
 
 -- ---- how many rows
 one-open : (o : ℕ) (v : Verdict) → ((test (not (ltb 0 o)) noBatch 0 ⨾ test (ltb 257 o) tablesDisagree 0) ⨾ v) ≡ rowsThen (rowsBy o) v

@@ -1,24 +1,30 @@
--- What the test of lengths says of fresh: refused with 1, or granted, and then every table has its length. Assumes nothing.
+-- What the tests say of fresh and rebuild: refused with 1, or with a row's number, or granted, and then every table has its length.
+-- Assumes nothing.
 use mathlib.Core.Path.{_≡_, refl, ap, sym, _∙_}
-use mathlib.Core.Bool.{Bool, true, false, not, _&&_}
+use mathlib.Core.Bool.{Bool, true, false, not, cond, _&&_, and-assoc}
 use mathlib.Core.List.{List, []}
-use Prim.Native.Nat.{ℕ, _*_}
+use Prim.Native.Nat.{ℕ, _*_, min}
 use lib.Dec.{eqb}
 use lib.ListN.{length, replicate}
 use lib.Seq.{set-getD}
-use borrow.Author.Tests.{eqb-true}
+use borrow.Author.Tests.{eqb-true, eq-eqb, ne-eqb, not-true}
 use Rattle.refusal.proofs.Tests.{and-true}
 use Rattle.refusal.specs.Refusals.{wrongShape}
-use Rattle.address.specs.Address.{slabs}
-use Rattle.model.specs.Store.{Answer, refused, done, fresh}
+use Rattle.address.specs.Address.{slabs, badSlots}
+use Rattle.model.specs.Store.{Answer, refused, done, fresh, rebuild}
 use Rattle.model.specs.Step.{answer, answerBy, grant, refusal, unless}
-use Rattle.model.specs.Tables.{capacities, tablesFit}
-use Rattle.model.specs.Verdict.{Verdict, ok, refuse, test}
-use Rattle.model.specs.Memory.{Memory, read}
-use Rattle.model.specs.MemoryAfter.{memoryAfter, memoryEffect, memoryRebuilt}
+use Rattle.model.specs.Tables.{capacities, badIds, tablesFit, writeAll, locationsOf}
+use Rattle.model.specs.Rebuild.{rows, rowsOf, heldBy, locatedBy, ownedBy}
+use Rattle.model.specs.Verdict.{Verdict, ok, refuse, test, _⨾_}
+use Rattle.model.specs.Memory.{Memory, read, putWord, usedWords}
+use Rattle.model.specs.MemoryAfter.{memoryAfter, memoryEffect, memoryRebuilt, useSlots}
 use Rattle.tables.specs.Shapes.{allFit}
 use Rattle.tables.proofs.Lengths.{allFit-read}
+use Rattle.tables.proofs.Laws.{Ranges, capacities-range}
 use Rattle.rebuild.specs.Answers.{memory}
+use Rattle.rebuild.specs.Checks.{checked, verdictOf}
+use Rattle.rebuild.specs.declared.check.Wrong.{Wrong}
+use Rattle.rebuild.proofs.Checked.{verdict-is, rows-length}
 
 -- the tables of a memory have their lengths
 abbrev pub fit : Memory → Bool
@@ -82,3 +88,64 @@ unfolding answer memoryAfter test grant memoryEffect
 fresh-granted m e =
     let r : refusal (read m) fresh ≡ ok = fresh-refusal m ∙ ap (λ b. test (not b) wrongShape 0) e in
     (ap (λ w. answerBy w done) (sym r), zeroed-rebuilt m e ∙ ap (λ w. unless w m (memoryRebuilt (m .ids) (m .slots) [])) (sym r))
+
+-- ---- rebuild
+
+module _ (m : Memory) (is ls : List ℕ) where
+  abbrev fits : Bool
+  fits = fit m && eqb (length ls) (length is)
+
+  rebuild-refusal : refusal (read m) (rebuild is ls) ≡ (test (not fits) wrongShape 0 ⨾ rows (read m) [] [] 0 (rowsOf is ls))
+  unfolding refusal read
+  rebuild-refusal = ap (λ b. test (not b) wrongShape 0 ⨾ rows (read m) [] [] 0 (rowsOf is ls))
+      (sym (and-assoc (capacities (m .ids) (m .slots)) (tablesFit (read m)) (eqb (length ls) (length is))) ∙ ap (λ b. b && eqb (length ls) (length is)) (allFit-read m))
+
+  pub rebuild-wrong : fits ≡ false → (refused wrongShape 0 ≡ answer (read m) (rebuild is ls)) × (m ≡ memoryAfter m (rebuild is ls))
+  unfolding answer memoryAfter test _⨾_
+  rebuild-wrong e =
+      let r : refusal (read m) (rebuild is ls) ≡ refuse wrongShape 0 = rebuild-refusal ∙ ap (λ b. test (not b) wrongShape 0 ⨾ rows (read m) [] [] 0 (rowsOf is ls)) e in
+      (ap (λ w. answerBy w (grant (read m) (rebuild is ls))) (sym r), ap (λ w. unless w m (memoryEffect m (rebuild is ls))) (sym r))
+
+  pub record Rows : Type 0 where
+    pub shape : Lengths m
+    pub range : Ranges (m .ids) (m .slots)
+    pub good : badSlots (m .slots) ≡ false
+    pub long : length ls ≡ length is
+
+  pub fits-rows : fits ≡ true → Rows
+  fits-rows e =
+      let b = and-true (fit m) (eqb (length ls) (length is)) e in
+      let l = fit-lengths m (b .0) in
+      let k = and-true (not (badIds (m .ids))) (not (badSlots (m .slots))) (l .caps) in
+      record { shape = l; range = capacities-range (m .ids) (m .slots) (l .caps); good = not-true _ (k .1); long = eqb-true _ _ (b .1) }
+
+  module _ (e : fits ≡ true) (w : Wrong) (c : w ≡ checked (m .ids) (m .slots) is ls) where
+    verdict : refusal (read m) (rebuild is ls) ≡ verdictOf w
+    unfolding test _⨾_ read
+    verdict =
+        let r = fits-rows e in
+        rebuild-refusal ∙ ap (λ b. test (not b) wrongShape 0 ⨾ rows (read m) [] [] 0 (rowsOf is ls)) e
+        ∙ sym (verdict-is (read m) is ls (r .range .ids-to) (r .range .slots-to) (r .long)) ∙ ap verdictOf (sym c)
+
+    pub rebuild-refused : (w .number ≡ 0 → ⊥) → (refused (w .number) (w .row) ≡ answer (read m) (rebuild is ls)) × (m ≡ memoryAfter m (rebuild is ls))
+    unfolding answer memoryAfter
+    rebuild-refused n =
+        let r : refusal (read m) (rebuild is ls) ≡ refuse (w .number) (w .row) = verdict ∙ ap (λ b. cond b ok (refuse (w .number) (w .row))) (ne-eqb (w .number) 0 n) in
+        (ap (λ v. answerBy v (grant (read m) (rebuild is ls))) (sym r), ap (λ v. unless v m (memoryEffect m (rebuild is ls))) (sym r))
+
+    pub rebuild-granted : w .number ≡ 0 → (done ≡ answer (read m) (rebuild is ls)) × (memoryRebuilt (m .ids) (m .slots) (rowsOf is ls) ≡ memoryAfter m (rebuild is ls))
+    unfolding answer memoryAfter grant memoryEffect
+    rebuild-granted n =
+        let r : refusal (read m) (rebuild is ls) ≡ ok = verdict ∙ ap (λ b. cond b ok (refuse (w .number) (w .row))) (eq-eqb (w .number) 0 n) in
+        (ap (λ v. answerBy v done) (sym r), ap (λ v. unless v m (memoryRebuilt (m .ids) (m .slots) (rowsOf is ls))) (sym r))
+
+-- the tables with the rows, as long as they were
+pub written : (m : Memory) (is ls : List ℕ) → Lengths m → length ls ≡ length is
+    → memory (m .ids) (m .slots) (heldBy (rowsOf is ls) (replicate (length (m .idMarks)) 0)) (locatedBy (rowsOf is ls) (replicate (length (m .locations)) 0))
+    (writeAll (m .slots) (locationsOf (rowsOf is ls)) 1 (replicate (length (m .slotMarks)) 0)) (ownedBy (m .slots) (rowsOf is ls) (replicate (length (m .owners)) 0))
+    (replicate (length (m .batch)) 0) (useSlots (m .slots) (putWord (replicate (length (m .tallies)) 0) usedWords 0 (min 1 (length is))) (locationsOf (rowsOf is ls)))
+    ≡ memoryRebuilt (m .ids) (m .slots) (rowsOf is ls)
+written m is ls l e = λ i.
+    memory (m .ids) (m .slots) (heldBy (rowsOf is ls) (replicate (l .id-marks i) 0)) (locatedBy (rowsOf is ls) (replicate (l .locations i) 0))
+    (writeAll (m .slots) (locationsOf (rowsOf is ls)) 1 (replicate (l .slot-marks i) 0)) (ownedBy (m .slots) (rowsOf is ls) (replicate (l .owners i) 0))
+    (replicate (l .batch i) 0) (useSlots (m .slots) (putWord (replicate (l .tallies i) 0) usedWords 0 (min 1 (rows-length is ls e i))) (locationsOf (rowsOf is ls)))

@@ -1,2 +1,5 @@
 pub mod Zeros
+pub mod Turns
+pub mod Repeats
+pub mod Checked
 pub mod Granted

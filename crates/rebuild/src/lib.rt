@@ -1,14 +1,15 @@
 // A store made anew: from rows of an id and a location, or from none (object_location_mapper.rs, new; document 01, "Ids, slots,
 // pending").
 //
-//     match rebuild::fresh(caps, &mut id_marks, &mut locations, &mut slot_marks, &mut owners, &mut batch, &mut tallies) {
+//     // ids, row_locations: the rows, in any order
+//     match rebuild::rebuild(caps, &mut id_marks, &mut locations, &mut slot_marks, &mut owners, &mut batch, &mut tallies, &ids, &row_locations) {
 //         Rebuilt::Done => ..,
-//         Rebuilt::Refused(refusal) => ..,  // 1
+//         Rebuilt::Refused(refusal) => ..,  // 1; by its row 8, 9, 3, 16
 //     }
 //
 // Every word of the six tables is written, or none where the call is refused.
 ghost use mathlib.Core.Path.{_≡_};
-ghost use Rattle.model.specs.Store.{fresh};
+ghost use Rattle.model.specs.Store.{fresh, rebuild};
 ghost use Rattle.model.specs.Step.{answer};
 ghost use Rattle.model.specs.Memory.{read};
 ghost use Rattle.model.specs.MemoryAfter.{memoryAfter};
@@ -16,6 +17,8 @@ ghost use Rattle.rebuild.specs.Answers.{memory, answerOf};
 use refusal::Refusal;
 use tables::Capacities;
 
+mod apply;
+mod check;
 mod clear;
 
 pub enum Rebuilt {
@@ -49,11 +52,54 @@ pub fn fresh(
     ) {
         return Rebuilt::Refused(Refusal::of(Refusal::WRONG_SHAPE));
     }
-    clear::marks(id_marks);
-    clear::words(locations);
-    clear::marks(slot_marks);
-    clear::words(owners);
-    clear::words(batch);
-    clear::words(tallies);
+    clear::all(id_marks, locations, slot_marks, owners, batch, tallies);
+    Rebuilt::Done
+}
+
+// A store that holds the rows' ids and slots, and nothing else.
+pub fn rebuild(
+    caps: Capacities,
+    id_marks: &mut [u8],
+    locations: &mut [u64],
+    slot_marks: &mut [u8],
+    owners: &mut [u64],
+    batch: &mut [u64],
+    tallies: &mut [u64],
+    ids: &[u64],
+    row_locations: &[u64],
+) -> Rebuilt
+    ensures { λ r. ⌜ (answerOf r
+        ≡ answer (read (memory (caps .ids) (caps .slots) (now («id_marks» .entry)) (now (locations .entry)) (now («slot_marks» .entry)) (now (owners .entry)) (now (batch .entry)) (now (tallies .entry)))) (rebuild (now (ids .entry)) (now («row_locations» .entry))))
+        × (memory (caps .ids) (caps .slots) (now («id_marks» .exit)) (now (locations .exit)) (now («slot_marks» .exit)) (now (owners .exit)) (now (batch .exit)) (now (tallies .exit))
+        ≡ memoryAfter (memory (caps .ids) (caps .slots) (now («id_marks» .entry)) (now (locations .entry)) (now («slot_marks» .entry)) (now (owners .entry)) (now (batch .entry)) (now (tallies .entry))) (rebuild (now (ids .entry)) (now («row_locations» .entry)))) ⌝ }
+{
+    let fit = tables::all_fit(
+        caps,
+        id_marks.len(),
+        locations.len(),
+        slot_marks.len(),
+        owners.len(),
+        batch.len(),
+        tallies.len(),
+    );
+    if !tables::both(fit, row_locations.len() == ids.len()) {
+        return Rebuilt::Refused(Refusal::of(Refusal::WRONG_SHAPE));
+    }
+    let wrong = check::first_refused(caps, ids, row_locations);
+    if wrong.number != 0 {
+        return Rebuilt::Refused(Refusal::at(wrong.number, wrong.row));
+    }
+    let slots = caps.slots;
+    apply::write(
+        slots,
+        id_marks,
+        locations,
+        slot_marks,
+        owners,
+        batch,
+        tallies,
+        ids,
+        row_locations,
+    );
     Rebuilt::Done
 }

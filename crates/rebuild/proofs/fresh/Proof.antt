@@ -1,6 +1,6 @@
 -- `rebuild::fresh` meets its contract: where the lengths are wrong nothing is written, else every table is zeros, which is a rebuild from no rows. Assumes nothing.
-use borrow.Author.Tests.{not-true, not-false}
 use mathlib.Core.Path.{ap, sym, _∙_}
+use borrow.Author.Tests.{not-true, not-false}
 use denote.Ref.{now}
 use Rattle.model.specs.Store.{refused}
 use Rattle.rebuild.specs.Answers.{memory}
@@ -22,23 +22,8 @@ returns c =
     let f = fresh-refused m (sym (c .before .before .all-fit .ensures) ∙ not-true _ (c .before .if1 .taken)) in
     (ap (λ r. refused (r .number) (r .index)) (c .of .ensures) ∙ f .0, f .1)
 
-marks-requires : tie.Need-marks-requires
-marks-requires c κs = search needs
-
-words-requires : tie.Need-words-requires
-words-requires c κs = search needs
-
-marks-requires-2 : tie.Need-marks-requires-2
-marks-requires-2 c κs = search needs
-
-words-requires-2 : tie.Need-words-requires-2
-words-requires-2 c κs = search needs
-
-words-requires-3 : tie.Need-words-requires-3
-words-requires-3 c κs = search needs
-
-words-requires-4 : tie.Need-words-requires-4
-words-requires-4 c κs = search needs
+all-requires : tie.Need-all-requires
+all-requires c κs = search needs
 
 same-length : tie.Need-same-length
 same-length c = search needs
@@ -60,10 +45,11 @@ same-length-6 c = search needs
 
 returns-2 : tie.Need-returns-2
 returns-2 c =
-    let a = c .before .before .before .before .before .before .before .before .before .before .before .before .before .before .before .before .before .before .before .before .before .before .before .before .before .before .before .before .before .before .before .before .args in
+    let a = c .before .before .before .before .before .before .before .before .before .before .before .before .before .before .before .before .before .before .before .before .before .before .before .before .before .before .before .args in
     let m = memory (a .caps .ids) (a .caps .slots) (now (a .id-marks)) (now (a .locations)) (now (a .slot-marks)) (now (a .owners)) (now (a .batch)) (now (a .tallies)) in
-    let f = fresh-granted m (sym (c .before .before .before .before .before .before .before .before .before .before .before .before .before .before .before .before .before .before .before .before .before .before .before .before .before .all-fit .ensures) ∙ not-false _ (c .before .before .before .before .before .before .before .before .before .before .before .before .before .before .before .before .before .before .before .before .before .before .before .before .if1 .left)) in
-    (f .0, (λ i. memory (a .caps .ids) (a .caps .slots) (c .before .before .before .before .before .before .before .before .before .before .before .before .before .before .before .before .before .before .before .before .before .before .marks .ensures i) (c .before .before .before .before .before .before .before .before .before .before .before .before .before .before .before .before .before .before .words .ensures i) (c .before .before .before .before .before .before .before .before .before .before .before .before .before .before .marks2 .ensures i) (c .before .before .before .before .before .before .before .before .before .before .words2 .ensures i) (c .before .before .before .before .before .before .words3 .ensures i) (c .before .before .words4 .ensures i)) ∙ f .1)
+    let f = fresh-granted m (sym (c .before .before .before .before .before .before .before .before .before .before .before .before .before .before .before .before .before .before .before .before .all-fit .ensures) ∙ not-false _ (c .before .before .before .before .before .before .before .before .before .before .before .before .before .before .before .before .before .before .before .if1 .left)) in
+    let e = c .before .before .before .before .before .before .before .before .before .before .before .before .all .ensures in
+    (f .0, (λ i. memory (a .caps .ids) (a .caps .slots) (e .0 i) (e .1 i) (e .2 i) (e .3 i) (e .4 i) (e .5 i)) ∙ f .1)
 
 pub fresh-spec : {M : Type 1} → statement M
 fresh-spec =
@@ -72,12 +58,7 @@ fresh-spec =
     all-fit-requires
     of-requires
     returns
-    marks-requires
-    words-requires
-    marks-requires-2
-    words-requires-2
-    words-requires-3
-    words-requires-4
+    all-requires
     same-length
     same-length-2
     same-length-3

@@ -22,7 +22,7 @@ loop-holds : tie.Need-loop-holds Inv-loop μ-loop
 loop-holds c = (search needs, search needs, search needs, search needs, refl)
 
 add-end : tie.Need-add-end Inv-loop μ-loop
-add-end c = let w = start-within (c .before .before .before .before .args .slots) (c .before .loop .slab) (c .before .loop .start) (c .before .loop .inv .1) (c .loop-test .taken) in record { fits = omega arith }
+add-end c = let w = start-within (c .before .before .before .before .args .slots) (c .before .loop .slab) (c .before .loop .start) (c .before .loop .inv .1) (omega arith) in record { fits = omega arith }
 
 add-slab : tie.Need-add-slab Inv-loop μ-loop
 add-slab c = search needs
@@ -34,7 +34,7 @@ part-release-allocator-start : tie.Need-part-release-allocator-start Inv-loop μ
 part-release-allocator-start c = search needs
 
 part-release-allocator-end : tie.Need-part-release-allocator-end Inv-loop μ-loop
-part-release-allocator-end c = let w = start-within (c .before .before .before .before .args .slots) (c .before .loop .slab) (c .before .loop .start) (c .before .loop .inv .1) (c .loop-test .taken) in omega arith
+part-release-allocator-end c = let w = start-within (c .before .before .before .before .args .slots) (c .before .loop .slab) (c .before .loop .start) (c .before .loop .inv .1) (omega arith) in omega arith
 
 release-allocator-requires : tie.Need-release-allocator-requires Inv-loop μ-loop
 release-allocator-requires c κs = search needs
@@ -46,7 +46,7 @@ loop-again : tie.Need-loop-again Inv-loop μ-loop
 loop-again c =
     let a = c .before .before .before .before .before .before .before .before .before .before .before .args in
     let l = c .before .before .before .before .before .before .before .before .loop in
-    let turn = release-turn (a .slots) (l .slab) (l .start) (l .slot-marks) (l .tallies) _ _ (c .before .before .before .before .before .before .before .loop-test .taken) (l .inv .1) (c .before .before .before .before .release-allocator .ensures .0) (c .before .before .before .before .release-allocator .ensures .1) in
+    let turn = release-turn (a .slots) (l .slab) (l .start) (l .slot-marks) (l .tallies) _ _ (omega arith) (l .inv .1) (c .before .before .before .before .release-allocator .ensures .0) (c .before .before .before .before .release-allocator .ensures .1) in
     (search needs, start-next (a .slots) (l .slab) (l .start) (l .inv .1), search needs, search needs, turn ∙ l .inv .4)
 
 same-length : tie.Need-same-length Inv-loop μ-loop

@@ -42,7 +42,7 @@ returns c =
     ((λ i. reportedAnswer (R.Refused (c .of .ensures i))) ∙ sym (r .0), sym (r .1))
 
 sub-put : tie.Need-sub-put
-sub-put c = isCut-tip _ _ _ _ (sym (c .before .before .is-cut .ensures) ∙ not-false _ (c .before .if1 .left))
+sub-put c = let low = isCut-tip _ _ _ _ (sym (c .before .before .is-cut .ensures) ∙ not-false _ (c .before .if1 .left)) in search needs
 
 put-requires : tie.Need-put-requires
 put-requires c κs = search needs

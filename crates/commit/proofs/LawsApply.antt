@@ -1,0 +1,100 @@
+-- What the steps of a commit write: an allocator made ready, one row, all rows. Assumes nothing.
+use mathlib.Core.Path.{_≡_, refl, sym, ap, _∙_}
+use mathlib.Core.List.{List, [], _∷_, map}
+use Prim.Native.Nat.{ℕ, zero, suc, _+_, _-_, _*_, _≤_, _<_}
+use native.Mathlib.Nat.{zero-add}
+use native.Mathlib.Numerals.{add-one}
+use native.Mathlib.Omega.{arith}
+use lib.ListN.{length, getD, set, take, drop}
+use borrow.Rule.Slice.PartMut.{putMid}
+use Rattle.id_allocator.specs.Counted.{settle}
+use Rattle.model.specs.Store.{Row}
+use Rattle.model.specs.Tables.{write}
+use Rattle.model.specs.Memory.{Memory, word, waitingWords}
+use Rattle.model.specs.MemoryAfter.{Slots, slotsOf, withSlots, withOwned, readyBy, readySlab, pendSlot, readyMarks, readyWords, pendId, pendOld, commitRow, commitAll}
+use Rattle.kept.specs.Kept.{rowsFrom}
+use Rattle.kept.proofs.Laws.{rowsFrom-next, rowsFrom-none, slab-part, put-slab}
+
+-- ---- ready
+pub readyMarks-busy : (w : ℕ) (ms : List ℕ) → (w ≡ 0 → ⊥) → readyMarks w ms ≡ ms
+readyMarks-busy zero ms h = absurd (h refl)
+readyMarks-busy (suc w) ms h = refl
+
+pub readyWords-busy : (g : List ℕ) (a w : ℕ) → (w ≡ 0 → ⊥) → readyWords g a w ≡ g
+readyWords-busy g a zero h = absurd (h refl)
+readyWords-busy g a (suc w) h = refl
+
+readyBy-busy : (cap k : ℕ) (s : Slots) (w : ℕ) → (w ≡ 0 → ⊥) → readyBy cap k s w ≡ s
+readyBy-busy cap k s zero h = absurd (h refl)
+readyBy-busy cap k s (suc w) h = refl
+
+module _ (cap k : ℕ) (s : Slots) where
+  -- the slab's waiting word, where the code finds it
+  waits : getD (s .words) (316 + (k + 1)) 0 ≡ word (s .words) waitingWords (suc k)
+  waits = rw (add-one k)
+
+  pub slab-busy : (getD (s .words) (316 + (k + 1)) 0 ≡ 0 → ⊥) → s ≡ readySlab cap k s
+  slab-busy h = sym (readyBy-busy cap k s (word (s .words) waitingWords (suc k)) (λ z. h (waits ∙ z)))
+
+  pub slab-quiet : (p : List ℕ) → getD (s .words) (316 + (k + 1)) 0 ≡ 0 → p ≡ map settle (take (k * cap + cap - k * cap) (drop (k * cap) (s .marks)))
+      → _≡_ {A = Slots} (record { marks = putMid (k * cap) (k * cap + cap - k * cap) (s .marks) p; words = set (s .words) (316 + (k + 1)) 1 }) (readySlab cap k s)
+  slab-quiet p z e =
+      rw (put-slab cap k (s .marks) p, e, slab-part cap k (s .marks), add-one k) (sym (ap (readyBy cap k s) (sym waits ∙ z)))
+
+-- ---- one row
+commitRow-store : (m : Memory) (i l o : ℕ) → (l ≡ 0 → ⊥)
+    → commitRow m i l o ≡ withOwned (pendOld m o) (set (m .locations) i l) (write (m .slots) l i (m .owners))
+commitRow-store m i zero o h = absurd (h refl)
+commitRow-store m i (suc l) o h = refl
+
+module _ (m : Memory) (i l o : ℕ) (locations marks words owners : List ℕ) where
+  pub row-store : (l ≡ 0 → ⊥) → locations ≡ set (m .locations) (0 + i) l → _≡_ {A = Slots} (record { marks = marks; words = words }) (pendSlot (m .slots) (slotsOf m) o)
+      → owners ≡ write (m .slots) l i (m .owners)
+      → withOwned (withSlots m (record { marks = marks; words = words })) locations owners ≡ commitRow m i l o
+  row-store nz el es eo =
+      let at = el ∙ ap (λ x. set (m .locations) x l) (zero-add i) in
+      (λ k. withOwned (withSlots m (es k)) (at k) (eo k)) ∙ sym (commitRow-store m i l o nz)
+
+  pub row-free : (idMarks before : List ℕ) → l ≡ 0 → locations ≡ set (m .locations) (0 + i) l
+      → idMarks ≡ set (readyMarks (word (m .tallies) waitingWords 0) (m .idMarks)) i 2 → before ≡ readyWords (m .tallies) 0 (word (m .tallies) waitingWords 0)
+      → _≡_ {A = Slots} (record { marks = marks; words = words }) (pendSlot (m .slots) (record { marks = m .slotMarks; words = before }) o)
+      → owners ≡ write (m .slots) o 0 (m .owners)
+      → _≡_ {A = Memory} (record {
+        ids = m .ids;
+        slots = m .slots;
+        idMarks = idMarks;
+        locations = locations;
+        slotMarks = marks;
+        owners = owners;
+        batch = m .batch;
+        tallies = words;
+      }) (commitRow m i l o)
+  row-free idMarks before z el ei ew es eo =
+      let at = el ∙ (λ k. set (m .locations) (zero-add i k) (z k)) in
+      let both = es ∙ ap (λ g. pendSlot (m .slots) (record { marks = m .slotMarks; words = g }) o) ew in
+      (λ k. record {
+        ids = m .ids;
+        slots = m .slots;
+        idMarks = ei k;
+        locations = at k;
+        slotMarks = both k .marks;
+        owners = eo k;
+        batch = m .batch;
+        tallies = both k .words;
+      }) ∙ sym (ap (λ x. commitRow m i x o) z)
+
+-- the row as it stands in the batch: id, new location, old location
+pub row-read : (m : Memory) (b : List ℕ) (j i l o : ℕ) → i ≡ getD b (1 + j) 0 → l ≡ getD b (257 + j) 0 → o ≡ getD (m .locations) (0 + i) 0
+    → commitRow m i l o ≡ commitRow m (getD b (1 + j) 0) (getD b (257 + j) 0) (getD (m .locations) (getD b (1 + j) 0) 0)
+row-read m b j i l o ei el eo =
+    let old = eo ∙ ap (λ x. getD (m .locations) x 0) (zero-add i ∙ ei) in
+    λ k. commitRow m (ei k) (el k) (old k)
+
+-- ---- all rows
+module _ (m : Memory) (b : List ℕ) (n i : ℕ) where
+  pub commit-next : i < n → commitAll m (rowsFrom b (n - i) i)
+      ≡ commitAll (commitRow m (getD b (1 + i) 0) (getD b (257 + i) 0) (getD (m .locations) (getD b (1 + i) 0) 0)) (rowsFrom b (n - (i + 1)) (i + 1))
+  commit-next h = ap (commitAll m) (rowsFrom-next b n i h)
+
+  pub commit-none : n ≤ i → commitAll m (rowsFrom b (n - i) i) ≡ m
+  commit-none h = ap (commitAll m) (rowsFrom-none b n i h)

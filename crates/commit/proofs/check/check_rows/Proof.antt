@@ -1,0 +1,80 @@
+-- The first row that cannot be committed. The invariant: the first bad row from row i on is the first bad row of all; what is left of n
+-- falls. Assumes nothing.
+use mathlib.Core.Path.{_≡_, refl, sym, ap, _∙_}
+use native.Mathlib.Omega.{arith}
+use borrow.Author.Needs.{needs}
+use mathlib.Core.Bool.{true, false}
+use Prim.Native.Nat.{ℕ, _+_, _-_, _≤_}
+use native.Mathlib.Nat.{sub-zero}
+use lib.ListN.{getD}
+use Rattle.kept.specs.Kept.{firstBad, rowsFrom, rowsAs}
+use Rattle.kept.proofs.Laws.{firstBad-here, firstBad-next, firstBad-none}
+use Rattle.commit.specs.Commit.{rowBad}
+use Rattle.commit.proofs.check.check_rows.Statement.{statement}
+use Rattle.commit.proofs.check.check_rows.Tie as tie
+
+abbrev Inv-loop : tie.InvT-loop
+Inv-loop caps locations slot-marks owners batch tallies n i₀ i =
+    (i ≤ n)
+    × (firstBad (rowBad (caps .ids) (caps .slots) locations slot-marks owners tallies) 0 (rowsFrom batch n 0)
+    ≡ firstBad (rowBad (caps .ids) (caps .slots) locations slot-marks owners tallies) i (rowsFrom batch (n - i) i))
+
+abbrev μ-loop : tie.MeasureT-loop
+μ-loop caps locations slot-marks owners batch tallies n i₀ i = n - i
+
+loop-holds : tie.Need-loop-holds Inv-loop μ-loop
+loop-holds c = (omega arith, rw sub-zero)
+
+get-requires : tie.Need-get-requires Inv-loop μ-loop
+get-requires c κs = search needs
+
+get-requires-2 : tie.Need-get-requires-2 Inv-loop μ-loop
+get-requires-2 c κs = search needs
+
+bad-update-requires : tie.Need-bad-update-requires Inv-loop μ-loop
+bad-update-requires c κs = search needs
+
+at-requires : tie.Need-at-requires Inv-loop μ-loop
+at-requires c κs = search needs
+
+returns : tie.Need-returns Inv-loop μ-loop
+returns c =
+    let a = c .before .before .before .before .before .before .before .before .before .before .before .before .args in
+    let i = c .before .before .before .before .before .before .loop .i in
+    let bad : rowBad (a .caps .ids) (a .caps .slots) (a .locations .now) (a .slot-marks .now) (a .owners .now) (a .tallies .now) (getD (a .batch .now) (1 + i) 0, getD (a .batch .now) (257 + i) 0) ≡ true = cc in
+    simp (c .at .ensures, c .before .before .before .before .before .before .loop .inv .1, firstBad-here (rowBad (a .caps .ids) (a .caps .slots) (a .locations .now) (a .slot-marks .now) (a .owners .now) (a .tallies .now)) (a .batch .now) (a .n) i (c .before .before .before .before .before .loop-test .taken) bad)
+
+add-i : tie.Need-add-i Inv-loop μ-loop
+add-i c = omega arith
+
+loop-less : tie.Need-loop-less Inv-loop μ-loop
+loop-less c = omega arith
+
+loop-again : tie.Need-loop-again Inv-loop μ-loop
+loop-again c =
+    let a = c .before .before .before .before .before .before .before .before .before .before .before .args in
+    let i = c .before .before .before .before .before .loop .i in
+    let good : rowBad (a .caps .ids) (a .caps .slots) (a .locations .now) (a .slot-marks .now) (a .owners .now) (a .tallies .now) (getD (a .batch .now) (1 + i) 0, getD (a .batch .now) (257 + i) 0) ≡ false = cc in
+    (omega arith, c .before .before .before .before .before .loop .inv .1 ∙ firstBad-next (rowBad (a .caps .ids) (a .caps .slots) (a .locations .now) (a .slot-marks .now) (a .owners .now) (a .tallies .now)) (a .batch .now) (a .n) i (c .before .before .before .before .loop-test .taken) good)
+
+returns-2 : tie.Need-returns-2 Inv-loop μ-loop
+returns-2 c =
+    let a = c .before .before .before .before .before .before .before .args in
+    simp (c .before .loop .inv .1, firstBad-none (rowBad (a .caps .ids) (a .caps .slots) (a .locations .now) (a .slot-marks .now) (a .owners .now) (a .tallies .now)) (a .batch .now) (a .n) (c .before .loop .i) (c .loop-test .left))
+
+pub check-rows-spec : {M : Type 1} → statement M
+check-rows-spec =
+    tie.close
+    (tie.spec
+    Inv-loop
+    μ-loop
+    loop-holds
+    get-requires
+    get-requires-2
+    bad-update-requires
+    at-requires
+    returns
+    add-i
+    loop-less
+    loop-again
+    returns-2)

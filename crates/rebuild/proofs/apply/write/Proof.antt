@@ -1,0 +1,75 @@
+-- `rebuild::apply::write` meets its contract: zeros, the ids' used word, then the rows. Assumes nothing.
+use mathlib.Core.Path.{ap, _∙_}
+use denote.Ref.{now}
+use Rattle.model.specs.Tables.{writeAll, locationsOf}
+use Rattle.model.specs.Rebuild.{rowsOf, heldBy, locatedBy, ownedBy}
+use Rattle.model.specs.Memory.{putWord, usedWords}
+use Rattle.model.specs.MemoryAfter.{useSlots}
+use borrow.Author.Needs.{needs}
+use Rattle.rebuild.proofs.apply.write.Statement.{statement}
+use Rattle.rebuild.proofs.apply.write.Tie as tie
+
+all-requires : tie.Need-all-requires
+all-requires c κs = search needs
+
+any-requires : tie.Need-any-requires
+any-requires c κs = search needs
+
+put-requires : tie.Need-put-requires
+put-requires c κs = search needs
+
+hold-ids-requires : tie.Need-hold-ids-requires
+hold-ids-requires c κs = search needs
+
+hold-slots-requires : tie.Need-hold-slots-requires
+hold-slots-requires c κs = c .before .before .before .before .before .before .before .before .before .before .before .before .before .before .before .before .before .before .before .before .before .before .before .before .before .before .before .before .before .before .before .before .before .before .before .before .before .before .before .before .before .before .pre
+
+same-length : tie.Need-same-length
+same-length c = search needs
+
+same-length-2 : tie.Need-same-length-2
+same-length-2 c = search needs
+
+same-length-3 : tie.Need-same-length-3
+same-length-3 c = search needs
+
+same-length-4 : tie.Need-same-length-4
+same-length-4 c = search needs
+
+same-length-5 : tie.Need-same-length-5
+same-length-5 c = search needs
+
+same-length-6 : tie.Need-same-length-6
+same-length-6 c = search needs
+
+returns : tie.Need-returns
+returns c =
+    let a = c .before .before .before .before .before .before .before .before .before .before .before .before .before .before .before .before .before .before .before .before .before .before .before .before .before .before .before .before .before .before .before .before .before .before .before .before .before .before .before .before .before .before .before .before .before .before .before .before .before .args in
+    let rs = rowsOf (now (a .ids)) (now (a .row-locations)) in
+    let clear = c .before .before .before .before .before .before .before .before .before .before .before .before .before .before .before .before .before .before .before .before .before .before .before .before .before .before .before .before .before .before .before .before .before .before .all .ensures in
+    let held = c .before .before .before .before .before .before .before .before .before .before .before .before .before .before .hold-ids .ensures in
+    let owned = c .before .before .before .before .before .before .hold-slots .ensures in (
+      held .0 ∙ ap (heldBy rs) (clear .0),
+      held .1 ∙ ap (locatedBy rs) (clear .1),
+      owned .0 ∙ ap (writeAll (a .slots) (locationsOf rs) 1) (clear .2),
+      owned .1 ∙ ap (ownedBy (a .slots) rs) (clear .3),
+      clear .4,
+      owned .2 ∙ ap (λ g. useSlots (a .slots) g (locationsOf rs)) (c .before .before .before .before .before .before .before .before .before .before .before .before .before .before .before .before .before .before .before .put .ensures ∙ (λ i. putWord (clear .5 i) usedWords 0 (c .before .before .before .before .before .before .before .before .before .before .before .before .before .before .before .before .before .before .before .before .any .ensures i))),
+    )
+
+pub write-spec : {M : Type 1} → statement M
+write-spec =
+    tie.close
+    (tie.spec
+    all-requires
+    any-requires
+    put-requires
+    hold-ids-requires
+    hold-slots-requires
+    same-length
+    same-length-2
+    same-length-3
+    same-length-4
+    same-length-5
+    same-length-6
+    returns)

@@ -1,0 +1,73 @@
+-- The rules of rebuild rows as the code goes through them. Nothing here has to be believed: proofs/Checked.antt shows that together they
+-- are the model's `rows`. Assumes nothing.
+use mathlib.Core.Bool.{Bool, true, false, not, cond, _&&_}
+use mathlib.Core.List.{List, [], _∷_}
+use Prim.Native.Nat.{ℕ, zero, suc, _+_, _/_, _%_}
+use lib.Dec.{ltb, eqb}
+use lib.ListN.{length, getD, set, take, replicate}
+use Rattle.refusal.specs.Refusals.{outOfRange, noSuchId, repeatedId, repeatedLocation}
+use Rattle.address.specs.Address.{unit, isLocation}
+use Rattle.address.specs.declared.Unpacked.{Unpacked}
+use Rattle.address.specs.declared.Unpacked.the-variants as U
+use Rattle.model.specs.Store.{Row}
+use Rattle.model.specs.Rebuild.{rowsOf}
+use Rattle.model.specs.Verdict.{Verdict, ok, refuse}
+use Rattle.rebuild.specs.declared.check.Wrong.{Wrong}
+
+abbrev pub wrong : ℕ → ℕ → Wrong
+wrong row number = record { row = row; number = number }
+
+abbrev pub isAt : Unpacked → Bool
+isAt (U.At a) = true
+isAt U.NoObject = false
+isAt (U.Refused r) = false
+
+-- ---- what a row says by itself, and repeated ids
+
+-- the number of a row's first wrong but repeated locations, 0 for none; `seen` marks the ids before it
+unfoldable pub wrongIn : ℕ → ℕ → List ℕ → ℕ → ℕ → ℕ
+wrongIn ids slots seen id location =
+    cond (not (ltb 0 id && ltb id ids)) noSuchId
+    (cond (not (eqb (getD seen id 0) 0)) repeatedId
+    (cond (isLocation slots location) 0 outOfRange))
+
+-- the first row with a wrong, and its number; past the last, and 0, where there is none
+unfoldable pub firstWrong : ℕ → ℕ → List ℕ → ℕ → List Row → Wrong
+firstWrong ids slots seen i [] = wrong i 0
+firstWrong ids slots seen i (r ∷ rs) =
+    cond (eqb (wrongIn ids slots seen (r .0) (r .1)) 0) (firstWrong ids slots (set seen (r .0) 1) (i + 1) rs)
+    (wrong i (wrongIn ids slots seen (r .0) (r .1)))
+
+-- ---- repeated locations
+
+-- whether a location of slab k has a slot that is marked; the marks with it
+unfoldable pub repeatsAt : ℕ → List ℕ → ℕ → Bool
+repeatsAt k marks l = eqb (l / unit) (k + 1) && not (eqb (getD marks (l % unit) 0) 0)
+
+unfoldable pub markedBy : ℕ → List ℕ → ℕ → List ℕ
+markedBy k marks l = cond (eqb (l / unit) (k + 1)) (set marks (l % unit) 1) marks
+
+-- the first of these locations that repeats one of slab k; past the last where there is none
+unfoldable pub repeatIn : ℕ → List ℕ → ℕ → List ℕ → ℕ
+repeatIn k marks i [] = i
+repeatIn k marks i (l ∷ ls) = cond (repeatsAt k marks l) i (repeatIn k (markedBy k marks l) (i + 1) ls)
+
+-- of n slabs from k on, among the first `end` locations
+unfoldable pub repeatsFrom : ℕ → List ℕ → ℕ → ℕ → ℕ → ℕ
+repeatsFrom slots ls zero k end = end
+repeatsFrom slots ls (suc n) k end = repeatsFrom slots ls n (k + 1) (repeatIn k (replicate slots 0) 0 (take end ls))
+
+-- ---- both: a repeated location before the first wrong row decides
+
+unfoldable pub decided : Wrong → ℕ → Wrong
+decided w repeat = cond (ltb repeat (w .row)) (wrong repeat repeatedLocation) w
+
+abbrev pub verdictOf : Wrong → Verdict
+verdictOf w = cond (eqb (w .number) 0) ok (refuse (w .number) (w .row))
+
+abbrev pub decidedBy : ℕ → List ℕ → Wrong → Wrong
+decidedBy slots ls w = decided w (repeatsFrom slots (take (w .row) ls) 78 0 (length (take (w .row) ls)))
+
+-- of all rows
+unfoldable pub checked : ℕ → ℕ → List ℕ → List ℕ → Wrong
+checked ids slots is ls = decidedBy slots ls (firstWrong ids slots (replicate 65536 0) 0 (rowsOf is ls))
