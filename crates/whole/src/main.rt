@@ -1,0 +1,235 @@
+// Document 01, "Run whole": eight objects of three bytes stored in order, five freed and released, and what is to be moved then.
+use address::SlabAddress;
+use address::Unpacked;
+use defrag::Defrag;
+use libc::STDOUT_FILENO;
+use tables::Capacities;
+
+fn text(words: &[u8]) {
+    io::write_all(STDOUT_FILENO, words);
+}
+
+fn number(n: u64) {
+    io::print_decimal(STDOUT_FILENO, n);
+}
+
+// One row: slab, slot and id.
+fn say_move(id: u64, location: u64) {
+    let Unpacked::At(address) = SlabAddress::unpack(8, location) else {
+        return;
+    };
+    number(address.slab as u64);
+    text(b" ");
+    number(address.slot as u64);
+    text(b" ");
+    number(id);
+    text(b"\n");
+}
+
+fn say_moves(ids: &[u64], locations: &[u64], count: usize) {
+    text(b"slab slot id\n");
+    let mut i = 0;
+    while i < count {
+        if i < ids.len() {
+            if i < locations.len() {
+                say_move(ids[i], locations[i]);
+            }
+        }
+        i += 1;
+    }
+}
+
+fn say_defrag(d: Defrag, ids: &[u64], locations: &[u64]) {
+    match d {
+        Defrag::Rows(count) => say_moves(ids, locations, count),
+        Defrag::Refused(_) => text(b"refused\n"),
+    }
+}
+
+fn caps() -> Capacities {
+    Capacities { ids: 9, slots: 8 }
+}
+
+fn two_ids(id_marks: &mut [u8], batch: &[u64], tallies: &mut [u64]) {
+    object_ids::allocate_object_id(caps(), id_marks, batch, tallies);
+    object_ids::allocate_object_id(caps(), id_marks, batch, tallies);
+}
+
+fn four_ids(id_marks: &mut [u8], batch: &[u64], tallies: &mut [u64]) {
+    two_ids(id_marks, batch, tallies);
+    two_ids(id_marks, batch, tallies);
+}
+
+fn eight_ids(id_marks: &mut [u8], batch: &[u64], tallies: &mut [u64]) {
+    four_ids(id_marks, batch, tallies);
+    four_ids(id_marks, batch, tallies);
+}
+
+// A batch is offered and committed.
+fn batch_of(
+    id_marks: &mut [u8],
+    locations: &mut [u64],
+    slot_marks: &mut [u8],
+    owners: &mut [u64],
+    batch: &mut [u64],
+    tallies: &mut [u64],
+    ids: &[u64],
+    stores: &[bool],
+    lengths: &[u64],
+    placed: &mut [u64],
+) {
+    offer::offer(
+        caps(),
+        id_marks,
+        locations,
+        slot_marks,
+        owners,
+        batch,
+        tallies,
+        ids,
+        stores,
+        lengths,
+        placed,
+    );
+    commit::commit(
+        caps(),
+        id_marks,
+        locations,
+        slot_marks,
+        owners,
+        batch,
+        tallies,
+    );
+}
+
+fn store_all(
+    id_marks: &mut [u8],
+    locations: &mut [u64],
+    slot_marks: &mut [u8],
+    owners: &mut [u64],
+    batch: &mut [u64],
+    tallies: &mut [u64],
+) {
+    eight_ids(id_marks, batch, tallies);
+    batch_of(
+        id_marks,
+        locations,
+        slot_marks,
+        owners,
+        batch,
+        tallies,
+        &[1, 2, 3, 4, 5, 6, 7, 8],
+        &[true, true, true, true, true, true, true, true],
+        &[3, 3, 3, 3, 3, 3, 3, 3],
+        &mut [0; 8],
+    );
+}
+
+fn free_some(
+    id_marks: &mut [u8],
+    locations: &mut [u64],
+    slot_marks: &mut [u8],
+    owners: &mut [u64],
+    batch: &mut [u64],
+    tallies: &mut [u64],
+) {
+    batch_of(
+        id_marks,
+        locations,
+        slot_marks,
+        owners,
+        batch,
+        tallies,
+        &[1, 2, 3, 5, 7],
+        &[false, false, false, false, false],
+        &[0, 0, 0, 0, 0],
+        &mut [0; 5],
+    );
+    release::release(caps(), id_marks, slot_marks, batch, tallies);
+}
+
+fn store_and_free(
+    id_marks: &mut [u8],
+    locations: &mut [u64],
+    slot_marks: &mut [u8],
+    owners: &mut [u64],
+    batch: &mut [u64],
+    tallies: &mut [u64],
+) {
+    store_all(id_marks, locations, slot_marks, owners, batch, tallies);
+    free_some(id_marks, locations, slot_marks, owners, batch, tallies);
+}
+
+fn list(
+    locations: &[u64],
+    slot_marks: &[u8],
+    owners: &[u64],
+    batch: &[u64],
+    tallies: &[u64],
+    moved_ids: &mut [u64],
+    moved_locations: &mut [u64],
+) {
+    let answer = defrag::objects_to_defrag(
+        caps(),
+        locations,
+        slot_marks,
+        owners,
+        batch,
+        tallies,
+        0.75,
+        moved_ids,
+        moved_locations,
+    );
+    say_defrag(answer, moved_ids, moved_locations);
+}
+
+fn run(
+    id_marks: &mut [u8],
+    locations: &mut [u64],
+    slot_marks: &mut [u8],
+    owners: &mut [u64],
+    batch: &mut [u64],
+    tallies: &mut [u64],
+) {
+    store_and_free(id_marks, locations, slot_marks, owners, batch, tallies);
+    list(
+        locations,
+        slot_marks,
+        owners,
+        batch,
+        tallies,
+        &mut [0; 8],
+        &mut [0; 8],
+    );
+}
+
+fn from_fresh(
+    id_marks: &mut [u8],
+    locations: &mut [u64],
+    slot_marks: &mut [u8],
+    owners: &mut [u64],
+    batch: &mut [u64],
+    tallies: &mut [u64],
+) {
+    rebuild::fresh(
+        caps(),
+        id_marks,
+        locations,
+        slot_marks,
+        owners,
+        batch,
+        tallies,
+    );
+    run(id_marks, locations, slot_marks, owners, batch, tallies);
+}
+
+fn main() {
+    from_fresh(
+        &mut [0; 9],
+        &mut [0; 9],
+        &mut [0; 624],
+        &mut [0; 624],
+        &mut [0; 513],
+        &mut [0; 473],
+    );
+}
