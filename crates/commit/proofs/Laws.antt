@@ -1,6 +1,6 @@
 -- The refusal of a commit in what the code reads: lengths, the opened word, the kept rows. Assumes nothing.
 use mathlib.Core.Bool.{Bool, true, false, not, _&&_, _||_}
-use mathlib.Core.Path.{_≡_, refl, sym, ap, _∙_}
+use mathlib.Core.Path.{_≡_, sym, ap, _∙_}
 use mathlib.Core.List.{List}
 use Prim.Native.Nat.{ℕ, _*_, pred}
 use lib.Dec.{eqb}
@@ -22,7 +22,6 @@ use Rattle.model.proofs.Verdicts.{test-ok, first-ok}
 use Rattle.tables.specs.Shapes.{allFit}
 use Rattle.tables.proofs.Lengths.{allFit-read}
 use Rattle.tables.proofs.LawsEntries.{badIn-read}
-use Rattle.kept.specs.declared.Rows.{Rows}
 use Rattle.kept.specs.declared.Rows.the-variants as R
 use Rattle.kept.specs.Kept.{rowsOf, rowsFrom, rowsAs, firstBad}
 use Rattle.kept.proofs.Laws.{badRow-read, commitRows-first}

@@ -1,17 +1,15 @@
 -- What the steps of a commit write: an allocator made ready, one row, all rows. Assumes nothing.
 use mathlib.Core.Path.{_≡_, refl, sym, ap, _∙_}
-use mathlib.Core.List.{List, [], _∷_, map}
+use mathlib.Core.List.{List, map}
 use Prim.Native.Nat.{ℕ, zero, suc, _+_, _-_, _*_, _≤_, _<_}
 use native.Mathlib.Nat.{zero-add}
 use native.Mathlib.Numerals.{add-one}
-use native.Mathlib.Omega.{arith}
-use lib.ListN.{length, getD, set, take, drop}
+use lib.ListN.{getD, set, take, drop}
 use borrow.Rule.Slice.PartMut.{putMid}
 use Rattle.id_allocator.specs.Counted.{settle}
-use Rattle.model.specs.Store.{Row}
 use Rattle.model.specs.Tables.{write}
 use Rattle.model.specs.Memory.{Memory, word, waitingWords}
-use Rattle.model.specs.MemoryAfter.{Slots, slotsOf, withSlots, withOwned, readyBy, readySlab, pendSlot, readyMarks, readyWords, pendId, pendOld, commitRow, commitAll}
+use Rattle.model.specs.MemoryAfter.{Slots, slotsOf, withSlots, withOwned, readyBy, readySlab, pendSlot, readyMarks, readyWords, pendOld, commitRow, commitAll}
 use Rattle.kept.specs.Kept.{rowsFrom}
 use Rattle.kept.proofs.Laws.{rowsFrom-next, rowsFrom-none, slab-part, put-slab}
 

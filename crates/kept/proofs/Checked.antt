@@ -1,13 +1,12 @@
 -- What a check's answer tells of the call that it checks, and what the call then answers and leaves. Assumes nothing.
 use mathlib.Core.Bool.{Bool}
-use mathlib.Core.Path.{_≡_, refl, sym, ap, _∙_}
-use mathlib.Core.List.{List}
-use Prim.Native.Nat.{ℕ, _≤_, pred}
+use mathlib.Core.Path.{_≡_, sym, ap, _∙_}
+use Prim.Native.Nat.{ℕ, pred}
 use native.Mathlib.Omega.{arith}
 use lib.ListN.{length, getD}
 use Rattle.refusal.specs.declared.Refusal.{Refusal}
 use Rattle.model.specs.Store.{Row, Call, refused}
-use Rattle.model.specs.Verdict.{Verdict, ok, refuse, _⨾_}
+use Rattle.model.specs.Verdict.{ok, refuse, _⨾_}
 use Rattle.model.specs.Tables.{kept}
 use Rattle.model.specs.Memory.{Memory, read}
 use Rattle.model.specs.MemoryAfter.{memoryEffect, memoryAfter}

@@ -10,7 +10,7 @@ use native.Mathlib.Omega.{arith}
 use lib.Dec.{ltb, eqb, eqb·suc-zero}
 use lib.ListN.{length, getD, take, drop, length-take, length-drop}
 use lib.Seq.{drop-cons, getD-take, getD-drop}
-use borrow.Author.Tests.{eq-eqb, ne-eqb, eqb-true, lt-ltb, le-ltb, ltb-true, ltb-false}
+use borrow.Author.Tests.{ne-eqb, lt-ltb, ltb-false}
 use borrow.Rule.Slice.PartMut.{putMid}
 use types.Run.{OneOf}
 use denote.Enum.Declared.{tagOf}
@@ -31,7 +31,6 @@ use Rattle.model.specs.MemoryAfter.{putPart}
 use Rattle.model.specs.Batches.{badRow, abandonRows, commitRows}
 use Rattle.model.proofs.Verdicts.{test-ok, then-ok}
 use Rattle.model.proofs.Tables.{isLocation-says, isLocation-nz}
-use Rattle.kept.specs.declared.Rows.{Rows}
 use Rattle.kept.specs.declared.Rows.the-variants as R
 use Rattle.kept.specs.Kept.{rowsBy, rowsOf, rowsThen, rowsAs, rowsFrom, noAddress, outOfRange, firstBad, byAddress}
 

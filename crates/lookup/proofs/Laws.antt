@@ -1,6 +1,6 @@
 -- A lookup's answer in what the code reads: lengths, one id, one location. Assumes nothing.
-use mathlib.Core.Bool.{Bool, true, false, not, _&&_, _||_}
-use mathlib.Core.Path.{_≡_, refl, sym, ap, _∙_}
+use mathlib.Core.Bool.{true, false, not, _&&_, _||_}
+use mathlib.Core.Path.{_≡_}
 use Prim.Native.Nat.{ℕ, _*_, _<_}
 use lib.Dec.{eqb, ltb}
 use lib.ListN.{length, getD}
@@ -8,13 +8,12 @@ use borrow.Author.Tests.{eqb-true, ltb-true, not-true}
 use Rattle.refusal.specs.Refusals.{wrongShape, noSuchId, tablesDisagree}
 use Rattle.refusal.proofs.Tests.{and-true}
 use Rattle.address.specs.Address.{slabs, badSlots}
-use Rattle.id_allocator.specs.Marks.{isHeld}
-use Rattle.model.specs.Store.{lookup, Answer, gave}
+use Rattle.model.specs.Store.{lookup, gave}
 use Rattle.model.specs.Verdict.{test, _⨾_}
 use Rattle.model.specs.Tables.{capacities, badIds, badAt}
-use Rattle.model.specs.Memory.{Memory, countedBy, read}
+use Rattle.model.specs.Memory.{Memory, read}
 use Rattle.model.specs.Step.{answer, answerBy, refusal, grant}
-use Rattle.tables.specs.Entries.{heldIn, badIn}
+use Rattle.tables.specs.Entries.{heldIn}
 use Rattle.tables.specs.Shapes.{lookupFits}
 use Rattle.tables.proofs.Lengths.{lookupFits-read}
 use Rattle.tables.proofs.LawsEntries.{heldIn-read}

@@ -1,11 +1,13 @@
 -- Abandon: where the check refuses, nothing is written; where it counts n rows, nothing is refused, and the kept rows are those n.
 -- Assumes nothing.
-use mathlib.Core.Path.{_≡_, refl, sym, ap, _∙_}
+use mathlib.Core.Path.{sym, ap, _∙_}
 use lib.ListN.{set}
 use Rattle.model.specs.MemoryAfter.{Slots, withKept, withSlots}
 use Rattle.kept.proofs.Laws.{rowsAs-count, rowsAs-refused}
 use Rattle.abandon.specs.Abandon.{abandonMemory}
-use Rattle.abandon.proofs.Laws.{granted-lent, granted-answer, granted-after, refused-answer, refused-after}
+use Rattle.kept.proofs.Checked.{refused-answer, refused-after}
+use Rattle.abandon.proofs.Laws.{fits-says, abandon-fits, abandon-done, abandon-after}
+use Rattle.model.specs.Store as S
 use borrow.Author.Needs.{needs}
 use Rattle.abandon.proofs.abandon.Statement.{statement}
 use Rattle.abandon.proofs.abandon.Tie as tie
@@ -24,7 +26,7 @@ give-slots-requires c κs =
     let a = c .before .before .before .before .before .before .before .before .before .before .before .before .before .args in
     let m = abandonMemory (a .caps .ids) (a .caps .slots) (a .slot-marks .now) (a .batch .now) (a .tallies .now) in
     let z = rowsAs-count _ _ _ (sym (c .before .before .before .before .before .before .check .ensures) ∙ c .before .before .before .before .n .given .1) in
-    let l = granted-lent m (z .0) in
+    let l = fits-says m (abandon-fits m (z .0)) in
     (l .capacity, l .marks-long)
 
 put-requires : tie.Need-put-requires
@@ -44,7 +46,7 @@ returns c =
     let a = c .before .before .before .before .before .before .before .before .before .before .args in
     let m = abandonMemory (a .caps .ids) (a .caps .slots) (a .slot-marks .now) (a .batch .now) (a .tallies .now) in
     let e = rowsAs-refused _ _ _ (sym (c .before .before .before .check .ensures) ∙ c .before .refusal .given .1) in
-    (sym (refused-answer m _ _ e), sym (refused-after m _ _ e))
+    (sym (refused-answer m S.abandon _ _ e), sym (refused-after m S.abandon _ _ e))
 
 same-length-4 : tie.Need-same-length-4
 same-length-4 c = search needs
@@ -60,7 +62,7 @@ returns-2 c =
     let a = c .before .before .before .before .before .before .before .before .before .before .before .before .before .before .before .before .before .before .before .before .before .before .args in
     let m = abandonMemory (a .caps .ids) (a .caps .slots) (a .slot-marks .now) (a .batch .now) (a .tallies .now) in
     let z = rowsAs-count _ _ _ (sym (c .before .before .before .before .before .before .before .before .before .before .before .before .before .before .before .check .ensures) ∙ c .before .before .before .before .before .before .before .before .before .before .before .before .before .n .given .1) in
-    (sym (granted-answer m (z .0)), rw (c .before .before .put .ensures) (ap (λ (s : Slots). withKept (withSlots m s) (set (a .batch .now) 0 0)) (c .before .before .before .before .before .before .before .before .give-slots .ensures) ∙ sym (granted-after m (z .0) _ (z .1))))
+    (sym (abandon-done m (z .0)), rw (c .before .before .put .ensures) (ap (λ (s : Slots). withKept (withSlots m s) (set (a .batch .now) 0 0)) (c .before .before .before .before .before .before .before .before .give-slots .ensures) ∙ sym (abandon-after m (z .0) _ (z .1))))
 
 pub abandon-spec : {M : Type 1} → statement M
 abandon-spec =

@@ -1,9 +1,9 @@
 -- The refusal of an abandon: lengths, then the opened word, then the rows, each return by a law that says the rest of the chain.
 -- Assumes nothing.
-use mathlib.Core.Path.{_≡_, refl, sym, ap, _∙_}
+use mathlib.Core.Path.{sym, _∙_}
 use borrow.Author.Tests.{not-true, not-false}
 use Rattle.abandon.specs.Abandon.{abandonMemory}
-use Rattle.abandon.proofs.Laws.{refusal-shape, check-count, check-refused}
+use Rattle.abandon.proofs.Laws.{abandon-shape, abandon-count, abandon-refused}
 use borrow.Author.Needs.{needs}
 use Rattle.abandon.proofs.check.Statement.{statement}
 use Rattle.abandon.proofs.check.Tie as tie
@@ -18,7 +18,7 @@ returns : tie.Need-returns
 returns c =
     let a = c .before .before .before .before .before .before .args in
     let m = abandonMemory (a .caps .ids) (a .caps .slots) (a .slot-marks .now) (a .batch .now) (a .tallies .now) in
-    simp (c .of .ensures, refusal-shape m (sym (c .before .before .slab-fits .ensures) ∙ not-true _ (c .before .if1 .taken)))
+    simp (c .of .ensures, abandon-shape m (sym (c .before .before .slab-fits .ensures) ∙ not-true _ (c .before .if1 .taken)))
 
 opened-requires : tie.Need-opened-requires
 opened-requires c κs = search needs
@@ -36,13 +36,13 @@ returns-2 : tie.Need-returns-2
 returns-2 c =
     let a = c .before .before .before .before .before .before .before .before .before .before .args in
     let m = abandonMemory (a .caps .ids) (a .caps .slots) (a .slot-marks .now) (a .batch .now) (a .tallies .now) in
-    c .check-rows .ensures ∙ check-count m (sym (c .before .before .before .before .before .before .slab-fits .ensures) ∙ not-false _ (c .before .before .before .before .before .if1 .left)) _ (sym (c .before .before .before .before .opened .ensures) ∙ c .before .before .n .given .1)
+    c .check-rows .ensures ∙ abandon-count m (sym (c .before .before .before .before .before .before .slab-fits .ensures) ∙ not-false _ (c .before .before .before .before .before .if1 .left)) _ (sym (c .before .before .before .before .opened .ensures) ∙ c .before .before .n .given .1)
 
 returns-3 : tie.Need-returns-3
 returns-3 c =
     let a = c .before .before .before .before .before .before .before .before .before .args in
     let m = abandonMemory (a .caps .ids) (a .caps .slots) (a .slot-marks .now) (a .batch .now) (a .tallies .now) in
-    check-refused m (sym (c .before .before .before .before .before .slab-fits .ensures) ∙ not-false _ (c .before .before .before .before .if1 .left)) _ _ (sym (c .before .before .before .opened .ensures) ∙ c .before .refusal .given .1)
+    abandon-refused m (sym (c .before .before .before .before .before .slab-fits .ensures) ∙ not-false _ (c .before .before .before .before .if1 .left)) _ _ (sym (c .before .before .before .opened .ensures) ∙ c .before .refusal .given .1)
 
 pub check-spec : {M : Type 1} → statement M
 check-spec =

@@ -1,13 +1,13 @@
 -- The first row that is out of range. The invariant: the first bad row from row i on is the first bad row of all; what is left of n falls.
 -- Assumes nothing.
 use borrow.Author.Needs.{needs}
-use mathlib.Core.Path.{_≡_, refl, sym, ap, _∙_}
+use mathlib.Core.Path.{_≡_, _∙_}
 use mathlib.Core.Bool.{true, false}
-use Prim.Native.Nat.{ℕ, _+_, _-_, _≤_}
+use Prim.Native.Nat.{_+_, _-_, _≤_}
 use native.Mathlib.Nat.{sub-zero}
 use native.Mathlib.Omega.{arith}
 use lib.ListN.{getD}
-use Rattle.kept.specs.Kept.{firstBad, rowsFrom, rowOutOfRange, rowsAs}
+use Rattle.kept.specs.Kept.{firstBad, rowsFrom, rowOutOfRange}
 use Rattle.kept.proofs.Laws.{firstBad-here, firstBad-next, firstBad-none}
 use Rattle.abandon.proofs.check_rows.Statement.{statement}
 use Rattle.abandon.proofs.check_rows.Tie as tie

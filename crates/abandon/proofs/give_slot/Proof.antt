@@ -1,9 +1,9 @@
 -- One slot is given back: a location is an address or nothing (`location-address`), and at an address the slab's part of the marks is
 -- replaced (`gave-is`). Assumes nothing.
-use mathlib.Core.Path.{_≡_, refl, sym, ap, _∙_}
+use mathlib.Core.Path.{refl, sym, ap, _∙_}
 use native.Mathlib.Omega.{arith}
 use Rattle.address.proofs.Laws.{unpacked-at, slots-range}
-use Rattle.model.specs.MemoryAfter.{Slots, gaveSlot, giveSlot}
+use Rattle.model.specs.MemoryAfter.{Slots, gaveSlot}
 use Rattle.tables.proofs.LawsEntries.{else-is, start-lt}
 use Rattle.kept.specs.Kept.{byAddress}
 use Rattle.kept.proofs.Laws.{location-address, slab-end}

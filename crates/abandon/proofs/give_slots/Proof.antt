@@ -5,7 +5,7 @@ use mathlib.Core.Path.{_≡_, refl, sym, ap, _∙_}
 use Prim.Native.Nat.{ℕ, _+_, _-_, _≤_}
 use native.Mathlib.Nat.{sub-zero}
 use native.Mathlib.Omega.{arith}
-use lib.ListN.{length, getD}
+use lib.ListN.{length}
 use Rattle.model.specs.Tables.{locationsOf}
 use Rattle.model.specs.MemoryAfter.{Slots, giveSlot, giveSlots}
 use Rattle.kept.specs.Kept.{rowsFrom}

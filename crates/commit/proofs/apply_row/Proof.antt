@@ -1,7 +1,6 @@
 -- One row: what each callee leaves makes up the model's row of a Store (`row-store`) or of a Free (`row-free`), and `row-read` says which
 -- row of the batch it is. Assumes nothing.
-use mathlib.Core.Path.{_≡_, refl, sym, ap, _∙_}
-use native.Mathlib.Omega.{arith}
+use mathlib.Core.Path.{ap, _∙_}
 use mathlib.Core.List.{List}
 use Prim.Native.Nat.{ℕ}
 use lib.ListN.{set}

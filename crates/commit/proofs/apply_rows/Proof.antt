@@ -1,7 +1,7 @@
 -- All rows. The invariant: applying the rows from i on, to the tables as they are, is applying all, to the tables at entry; what is left
 -- of n falls. Assumes nothing.
 use mathlib.Core.Path.{_≡_, refl, sym, ap, _∙_}
-use Prim.Native.Nat.{ℕ, _+_, _-_, _≤_}
+use Prim.Native.Nat.{_+_, _-_, _≤_}
 use native.Mathlib.Nat.{sub-zero}
 use native.Mathlib.Omega.{arith}
 use lib.ListN.{length}

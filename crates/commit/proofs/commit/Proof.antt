@@ -1,6 +1,6 @@
 -- Commit: where the check refuses, nothing is written; where it counts n rows, nothing is refused, and the kept rows are those n.
 -- Assumes nothing.
-use mathlib.Core.Path.{_≡_, refl, sym, ap, _∙_}
+use mathlib.Core.Path.{sym, ap, _∙_}
 use lib.ListN.{set}
 use Rattle.model.specs.Store as S
 use Rattle.model.specs.Memory.{Memory}

@@ -1,5 +1,5 @@
 -- A slot made pending: a location is an address or nothing (`location-address`); at an address the slab is ready first. Assumes nothing.
-use mathlib.Core.Path.{_≡_, refl, sym, ap, _∙_}
+use mathlib.Core.Path.{refl, sym, ap, _∙_}
 use native.Mathlib.Omega.{arith}
 use Rattle.address.proofs.Laws.{unpacked-at, slots-range}
 use Rattle.model.specs.MemoryAfter.{Slots, pendedSlot, setSlot}

@@ -1,6 +1,5 @@
 -- The ids' allocator made ready, by its waiting word: as it is, or settled. Assumes nothing.
-use mathlib.Core.Path.{_≡_, refl, sym, ap, _∙_}
-use native.Mathlib.Omega.{arith}
+use mathlib.Core.Path.{_≡_, sym, ap, _∙_}
 use Prim.Native.Nat.{ℕ}
 use lib.ListN.{getD}
 use Rattle.model.specs.MemoryAfter.{readyMarks, readyWords}

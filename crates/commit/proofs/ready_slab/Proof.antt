@@ -1,8 +1,7 @@
 -- A slab made ready, by its waiting word: as it is (`slab-busy`), or its part of the marks settled (`slab-quiet`). Assumes nothing.
-use mathlib.Core.Path.{_≡_, refl, sym, ap, _∙_}
+use mathlib.Core.Path.{sym, _∙_}
 use native.Mathlib.Omega.{arith}
 use Rattle.address.proofs.Laws.{slots-range}
-use Rattle.model.specs.MemoryAfter.{Slots}
 use Rattle.tables.proofs.LawsEntries.{start-lt}
 use Rattle.kept.proofs.Laws.{slab-end}
 use Rattle.commit.proofs.LawsApply.{slab-busy, slab-quiet}

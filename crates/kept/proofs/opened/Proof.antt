@@ -1,7 +1,6 @@
 -- The opened word: each return simplifies the definition by the tests that led there. Assumes nothing.
-use mathlib.Core.Path.{sym, ap, _∙_}
 use borrow.Author.Tests.{lt-ltb, le-ltb, eq-eqb, ne-eqb}
-use Rattle.kept.specs.Kept.{rowsOf, rowsBy}
+use Rattle.kept.specs.Kept.{rowsOf}
 use borrow.Author.Needs.{needs}
 use Rattle.kept.proofs.opened.Statement.{statement}
 use Rattle.kept.proofs.opened.Tie as tie

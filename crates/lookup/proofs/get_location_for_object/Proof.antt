@@ -1,8 +1,7 @@
 -- A lookup: each return simplifies the chain of tests of `lookup-answer` by the tests that led there. An id that is held is in range, so
 -- that its location is read without a test. Assumes nothing.
 use lib.ListN.{getD}
-use mathlib.Core.Path.{_≡_, sym, ap, _∙_}
-use mathlib.Core.Bool.{true, false}
+use mathlib.Core.Path.{sym, _∙_}
 use native.Mathlib.Omega.{arith}
 use borrow.Author.Tests.{not-true, not-false, eq-eqb, ne-eqb}
 use Rattle.model.specs.Verdict.{test, _⨾_}

@@ -1,7 +1,5 @@
 -- An update that cannot be committed: each return simplifies the definition by the test that led there. Assumes nothing.
-use mathlib.Core.Path.{_≡_, refl, sym, ap, _∙_}
-use native.Mathlib.Omega.{arith}
-use Prim.Native.Nat.{_+_}
+use mathlib.Core.Path.{sym, _∙_}
 use native.Mathlib.Nat.{zero-add}
 use Rattle.commit.specs.Commit.{badUpdate}
 use borrow.Author.Needs.{needs}

@@ -1,6 +1,6 @@
 -- The refusal of a commit: lengths, then the opened word, then the rows, each return by a law that says the rest of the chain.
 -- Assumes nothing.
-use mathlib.Core.Path.{_≡_, refl, sym, ap, _∙_}
+use mathlib.Core.Path.{sym, _∙_}
 use borrow.Author.Tests.{not-true, not-false}
 use Rattle.commit.specs.Commit.{commitMemory}
 use Rattle.commit.proofs.Laws.{commit-shape, commit-count, commit-refused}
