@@ -24,6 +24,9 @@ fn ramp(n: usize) -> Vec<u8> {
     (0..n).map(|i| (i * 7 + 3) as u8).collect()
 }
 
+/// What was computed is not needed, only that it was.
+fn ignore<T>(_: T) {}
+
 /// About as many calls as fill a tenth of a millisecond.
 fn calls_for(n: usize) -> u32 {
     (200_000 / (n + 20)).max(1) as u32
@@ -35,9 +38,9 @@ fn checks(rounds: u32) {
         let bytes = ramp(n);
         assert_eq!(ours::crc32(&bytes), zlib(&bytes));
         assert_eq!(ours::crc32(&bytes), table(&bytes));
-        let mut a = |calls| (0..calls).for_each(|_| drop(black_box(ours::crc32(black_box(&bytes)))));
-        let mut b = |calls| (0..calls).for_each(|_| drop(black_box(zlib(black_box(&bytes)))));
-        let mut c = |calls| (0..calls).for_each(|_| drop(black_box(table(black_box(&bytes)))));
+        let mut a = |calls| (0..calls).for_each(|_| ignore(black_box(ours::crc32(black_box(&bytes)))));
+        let mut b = |calls| (0..calls).for_each(|_| ignore(black_box(zlib(black_box(&bytes)))));
+        let mut c = |calls| (0..calls).for_each(|_| ignore(black_box(table(black_box(&bytes)))));
         let t = best(rounds, calls_for(n), &mut [&mut a, &mut b, &mut c]);
         println!("| {n} | {:.1} | {:.1} | {:.1} | {:.2} | {:.2} |", t[0], t[1], t[2], t[1] / t[0], t[2] / t[0]);
     }
@@ -50,8 +53,8 @@ fn classes(rounds: u32) {
         let sizes = spread(most);
         let agreed = sizes.iter().filter(|n| ours::class(**n) == u64::from(probe::class(**n))).count();
         assert!(agreed + 8 >= sizes.len(), "classes differ beyond the listed differences");
-        let mut a = |calls| (0..calls).for_each(|_| sizes.iter().for_each(|n| drop(black_box(ours::class(black_box(*n))))));
-        let mut b = |calls| (0..calls).for_each(|_| sizes.iter().for_each(|n| drop(black_box(probe::class(black_box(*n))))));
+        let mut a = |calls| (0..calls).for_each(|_| sizes.iter().for_each(|n| ignore(black_box(ours::class(black_box(*n))))));
+        let mut b = |calls| (0..calls).for_each(|_| sizes.iter().for_each(|n| ignore(black_box(probe::class(black_box(*n))))));
         let t = best(rounds, 20, &mut [&mut a, &mut b]);
         println!("| {name} | {:.1} | {:.1} | {:.2} |", t[0] / 1024.0, t[1] / 1024.0, t[1] / t[0]);
     }
@@ -67,17 +70,17 @@ fn frames(rounds: u32) {
         assert_eq!(ours::frame_write(&mut slot, &object), 0);
         assert_eq!(ours::frame_read(&slot), Some(n as u64));
         let kept = slot.clone();
-        let mut write = |calls| (0..calls).for_each(|_| drop(black_box(ours::frame_write(black_box(&mut slot), black_box(&object)))));
+        let mut write = |calls| (0..calls).for_each(|_| ignore(black_box(ours::frame_write(black_box(&mut slot), black_box(&object)))));
         let mut check_copy = |calls| {
             (0..calls).for_each(|_| {
                 let to = black_box(&mut copy);
                 to[..n].copy_from_slice(black_box(&object));
                 to[n..].fill(0);
-                drop(black_box(ours::crc32(&to[..size - 4])));
+                ignore(black_box(ours::crc32(&to[..size - 4])));
             })
         };
-        let mut read = |calls| (0..calls).for_each(|_| drop(black_box(ours::frame_read(black_box(&kept)))));
-        let mut check = |calls| (0..calls).for_each(|_| drop(black_box(ours::crc32(black_box(&kept[..size - 4])))));
+        let mut read = |calls| (0..calls).for_each(|_| ignore(black_box(ours::frame_read(black_box(&kept)))));
+        let mut check = |calls| (0..calls).for_each(|_| ignore(black_box(ours::crc32(black_box(&kept[..size - 4])))));
         let t = best(rounds, calls_for(size), &mut [&mut write, &mut check_copy, &mut read, &mut check]);
         println!("| {size} | {n} | {:.1} | {:.1} | {:.2} | {:.1} | {:.1} | {:.2} |", t[0], t[1], t[0] / t[1], t[2], t[3], t[2] / t[3]);
     }

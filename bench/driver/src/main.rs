@@ -1,10 +1,6 @@
 //! Ours and the original, timed in one run. The originals are included unchanged, as the oracle includes them.
 #[allow(dead_code, unused_imports)]
-mod heap {
-    include!("../../../oracle/original/heap.rs");
-    #[path = "../../../../oracle/rust/driver/src/heap/probe.rs"]
-    pub(crate) mod probe;
-}
+mod heap;
 #[allow(dead_code)]
 mod id_allocator {
     include!("../../../oracle/original/id_allocator.rs");
