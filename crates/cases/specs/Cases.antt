@@ -7,21 +7,26 @@ use Rattle.sizes.specs.Sizes.{classOf}
 use Rattle.sizes.specs.Outcomes.{classOutcome}
 use Rattle.address.specs.Address.{packed, unpacked}
 use Rattle.address.specs.Outcomes.{packedOutcome, unpackedOutcome}
+use Rattle.model.specs.Numbers.{Said}
+use Rattle.model.specs.Cases.{Case, cases}
+
+-- an outcome's number and values, as the store's answers have them
+abbrev said : Outcome → Said
+said (granted values) = record { number = 0; values = values }
+said (refusedWith n i) = record { number = n; values = i ∷ [] }
 
 -- what the definitions give, and what document 01 says
-pub record Case : Type 0 where
-  pub gives : Outcome
-  pub says : Outcome
+abbrev case : Outcome → Outcome → Case
+case gives says = record { given = said gives; written = said says }
 
 abbrev class : ℕ → Outcome → Case
-class n says = record { gives = classOutcome (classOf n); says = says }
+class size says = case (classOutcome (classOf size)) says
 
--- an address packed, in slabs of the largest capacity, and the location unpacked
 abbrev packs : ℕ → ℕ → ℕ → Case
-packs slab slot location = record { gives = packedOutcome (packed 65536 (record { slab = slab; slot = slot })); says = granted (location ∷ []) }
+packs slab slot location = case (packedOutcome (packed 65536 (record { slab = slab; slot = slot }))) (granted (location ∷ []))
 
 abbrev unpacks : ℕ → Outcome → Case
-unpacks location says = record { gives = unpackedOutcome (unpacked 65536 location); says = says }
+unpacks location says = case (unpackedOutcome (unpacked 65536 location)) says
 
 abbrev slab : ℕ → Outcome
 slab k = granted (k ∷ [])
@@ -42,4 +47,6 @@ table =
     class 17179869172 (slab 77) ∷ class 17179869173 (refusedWith tooLarge 0) ∷
     -- P7
     packs 0 0 72057594037927936 ∷ packs 77 5 5620492334958379013 ∷
-    unpacks 72057594037927936 (granted (0 ∷ 0 ∷ [])) ∷ unpacks 5620492334958379013 (granted (77 ∷ 5 ∷ [])) ∷ []
+    unpacks 72057594037927936 (granted (0 ∷ 0 ∷ [])) ∷ unpacks 5620492334958379013 (granted (77 ∷ 5 ∷ [])) ∷
+    -- P8, P9, P10 and the run whole, which stand with the store's rules
+    cases
