@@ -46,7 +46,7 @@ fn add_row(
 }
 
 // The rows of slots with these owners, of which the first has the location `first`.
-pub fn add_rows(
+pub(crate) fn add_rows(
     locations: &[u64],
     owners: &[u64],
     first: u64,

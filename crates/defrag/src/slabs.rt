@@ -85,7 +85,7 @@ fn add_slab(
 }
 
 // The rows of all slabs; how many there are.
-pub fn list_all(
+pub(crate) fn list_all(
     slots: usize,
     locations: &[u64],
     slot_marks: &[u8],

@@ -81,7 +81,7 @@ fn hold_slots(
 }
 
 // Every word of the six tables: the rows, and zeros elsewhere.
-pub fn write(
+pub(crate) fn write(
     slots: usize,
     id_marks: &mut [u8],
     locations: &mut [u64],

@@ -41,7 +41,7 @@ fn is_at(unpacked: Unpacked) -> bool
     }
 }
 
-pub fn is_location(slots: usize, location: u64) -> bool
+pub(crate) fn is_location(slots: usize, location: u64) -> bool
     requires { ⌜ badSlots slots ≡ false ⌝ }
     ensures { λ r. ⌜ r ≡ isLocation slots location ⌝ }
 {
@@ -152,7 +152,7 @@ fn first_repeat(slots: usize, locations: &[u64]) -> usize
 }
 
 // The first row that is refused, and its number; number 0 where none is.
-pub fn first_refused(caps: Capacities, ids: &[u64], row_locations: &[u64]) -> Wrong
+pub(crate) fn first_refused(caps: Capacities, ids: &[u64], row_locations: &[u64]) -> Wrong
     requires { ⌜ (badSlots (caps .slots) ≡ false) × (caps .slots ≤ 65536) × (length (now «row_locations») ≡ length (now ids)) ⌝ }
     ensures { λ r. ⌜ r ≡ checked (caps .ids) (caps .slots) (now (ids .entry)) (now («row_locations» .entry)) ⌝ }
 {
