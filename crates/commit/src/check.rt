@@ -59,7 +59,7 @@ fn check_rows(
 }
 
 // How many kept updates are to be committed, or why none.
-pub fn check(
+pub(crate) fn check(
     caps: Capacities,
     id_marks: &[u8],
     locations: &[u64],

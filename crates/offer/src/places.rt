@@ -52,7 +52,7 @@ fn take_slot(slots: usize, slot_marks: &mut [u8], tallies: &mut [u64], location:
 }
 
 // A slot for each update, in list order.
-pub fn place(
+pub(crate) fn place(
     slots: usize,
     slot_marks: &mut [u8],
     tallies: &mut [u64],
@@ -81,7 +81,7 @@ fn copy(words: &mut [u64], base: usize, from: &[u64])
 }
 
 // The store keeps the batch. The opened word says how many updates it has.
-pub fn keep(batch: &mut [u64], ids: &[u64], placed: &[u64], opened: u64)
+pub(crate) fn keep(batch: &mut [u64], ids: &[u64], placed: &[u64], opened: u64)
     ensures { λ _. ⌜ now (batch .exit) ≡ set (sets (sets (now (batch .entry)) 1 (now (ids .entry))) 257 (now (placed .entry))) 0 opened ⌝ }
 {
     copy(batch, KEPT_IDS, ids);

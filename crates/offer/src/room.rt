@@ -15,7 +15,7 @@ use tables::get;
 use tables::slab_marks;
 
 // How many updates ask for a slot of each slab.
-pub fn tally(slabs: &[usize]) -> [u64; 78]
+pub(crate) fn tally(slabs: &[usize]) -> [u64; 78]
     ensures { λ r. ⌜ r ≡ tallied noneAsked (now (slabs .entry)) ⌝ }
 {
     let mut asked = [0u64; 78];
@@ -55,7 +55,7 @@ fn slab_lacks(slots: usize, slot_marks: &[u8], tallies: &[u64], slab: usize, ask
     lacks(slab_marks(slot_marks, slots, slab), hint, asked)
 }
 
-pub fn room(slots: usize, slot_marks: &[u8], tallies: &[u64], asked: &[u64]) -> Offered
+pub(crate) fn room(slots: usize, slot_marks: &[u8], tallies: &[u64], asked: &[u64]) -> Offered
     ensures { λ r. ⌜ verdictOf r ≡ roomIn slots (now («slot_marks» .entry)) (now (tallies .entry)) (now (asked .entry)) 78 0 ⌝ }
 {
     let mut slab: usize = 0;

@@ -41,7 +41,7 @@ fn kind(store: bool, length: u64) -> usize
 }
 
 // Of the first 256 updates.
-pub fn kinds(stores: &[bool], lengths: &[u64]) -> [usize; 256]
+pub(crate) fn kinds(stores: &[bool], lengths: &[u64]) -> [usize; 256]
     ensures { λ r. ⌜ r ≡ sets noKinds 0 (kindsOf (now (stores .entry)) (now (lengths .entry))) ⌝ }
 {
     let mut slabs = [FREED; 256];
@@ -120,7 +120,7 @@ fn number(
 }
 
 // The first refusal, in list order.
-pub fn check(
+pub(crate) fn check(
     caps: Capacities,
     id_marks: &[u8],
     locations: &[u64],

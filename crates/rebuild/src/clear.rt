@@ -2,7 +2,7 @@
 ghost use mathlib.Core.Path.{_≡_};
 ghost use lib.ListN.{length, replicate};
 
-pub fn marks(table: &mut [u8])
+pub(crate) fn marks(table: &mut [u8])
     ensures { λ _. ⌜ now (table .exit) ≡ replicate (length (now (table .entry))) 0 ⌝ }
 {
     let mut i: usize = 0;
@@ -12,7 +12,7 @@ pub fn marks(table: &mut [u8])
     }
 }
 
-pub fn words(table: &mut [u64])
+pub(crate) fn words(table: &mut [u64])
     ensures { λ _. ⌜ now (table .exit) ≡ replicate (length (now (table .entry))) 0 ⌝ }
 {
     let mut i: usize = 0;
@@ -23,7 +23,7 @@ pub fn words(table: &mut [u64])
 }
 
 // All six tables of a store.
-pub fn all(
+pub(crate) fn all(
     id_marks: &mut [u8],
     locations: &mut [u64],
     slot_marks: &mut [u8],
