@@ -8,6 +8,8 @@ use Rattle.refusal.specs.Refusals.{wrongShape}
 use Rattle.refusal.specs.Outcomes.{Outcome, granted, refusedWith, refusedAs}
 use Rattle.address.specs.declared.Unpacked.{Unpacked}
 use Rattle.address.specs.declared.Unpacked.the-variants as U
+use Rattle.fragmentation.specs.declared.Cutoff.{Cutoff}
+use Rattle.fragmentation.specs.declared.Cutoff.the-variants as C
 
 -- 0 where granted, else the refusal's number plus 256 times its index
 abbrev pub statusOf : Outcome → ℕ
@@ -33,3 +35,9 @@ abbrev pub unpackedInThree : Unpacked → Outcome
 unpackedInThree (U.At a) = granted (1 ∷ a .slab ∷ a .slot ∷ [])
 unpackedInThree U.NoObject = granted (0 ∷ 0 ∷ 0 ∷ [])
 unpackedInThree (U.Refused r) = refusedAs r
+
+-- a cutoff in two values: 1 and the slot, or two zeros for nothing
+abbrev pub cutoffInTwo : Cutoff → Outcome
+cutoffInTwo (C.From slot) = granted (1 ∷ slot ∷ [])
+cutoffInTwo C.Nothing = granted (0 ∷ 0 ∷ [])
+cutoffInTwo (C.Refused r) = refusedAs r

@@ -1,4 +1,4 @@
-// Classes, checks, frames, cookies and addresses.
+// Classes, checks, frames, cookies, addresses and cutoffs.
 ghost use mathlib.Core.Path.{_≡_};
 ghost use mathlib.Core.List.{List};
 ghost use Prim.Native.Nat.{ℕ};
@@ -11,12 +11,15 @@ ghost use Rattle.settings.specs.Settings.{storing, settingsOf, agreement};
 ghost use Rattle.settings.specs.Outcomes.{storedOutcome, persistentSettingsOutcome, verifiedOutcome};
 ghost use Rattle.address.specs.Address.{packed, unpacked};
 ghost use Rattle.address.specs.Outcomes.{packedOutcome};
-ghost use Rattle.exports.specs.Status.{statusOf, Exported, exported, unpackedInThree};
+ghost use Rattle.fragmentation.specs.Answer.{cutoffOf};
+ghost use Rattle.exports.specs.Status.{statusOf, Exported, exported, unpackedInThree, cutoffInTwo};
 use crate::status::WRONG_LENGTH;
 use crate::status::status;
+use crate::values;
 use address::Packed;
 use address::SlabAddress;
 use address::Unpacked;
+use fragmentation::Cutoff;
 use frame::Slab;
 use frame::Verdict;
 use frame::Written;
@@ -158,17 +161,39 @@ pub extern "C" fn wentuhoro_unpack(slots: usize, location: u64, address: &mut [u
     }
     match SlabAddress::unpack(slots, location) {
         Unpacked::At(a) => {
-            address[0] = 1;
-            address[1] = a.slab as u64;
-            address[2] = a.slot as u64;
+            values::three(address, 1, a.slab as u64, a.slot as u64);
             0
         }
         Unpacked::NoObject => {
-            address[0] = 0;
-            address[1] = 0;
-            address[2] = 0;
+            values::three(address, 0, 0, 0);
             0
         }
         Unpacked::Refused(r) => status(r),
+    }
+}
+
+// The first slot to look at in a slab with so many live slots below its tip. Two values: 1, slot; or two zeros for nothing.
+#[no_mangle]
+pub extern "C" fn wentuhoro_fragmentation_cutoff(
+    live: usize,
+    tip: usize,
+    ratio: f32,
+    cutoff: &mut [u64],
+) -> u64
+    ensures { λ r. ⌜ _≡_ {A = Exported} (record { status = r; lent = now (cutoff .exit) }) (exported 2 (cutoffInTwo (cutoffOf live tip ratio)) (now (cutoff .entry))) ⌝ }
+{
+    if cutoff.len() != 2 {
+        return WRONG_LENGTH;
+    }
+    match fragmentation::fragmentation_cutoff(live, tip, ratio) {
+        Cutoff::From(slot) => {
+            values::two(cutoff, 1, slot as u64);
+            0
+        }
+        Cutoff::Nothing => {
+            values::two(cutoff, 0, 0);
+            0
+        }
+        Cutoff::Refused(r) => status(r),
     }
 }

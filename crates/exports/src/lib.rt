@@ -2,16 +2,35 @@
 //
 // One convention. Every call answers a status: 0 where it is granted, else the refusal's number plus 256 times its index. Values go to a
 // lent slice of exactly as many words, which is as it was on a refusal; a slice of another length is refused with 1, index 0.
+mod batches;
 mod leaves;
+mod night;
+mod objects;
 mod status;
+mod stores;
+mod values;
 
+pub use batches::wentuhoro_abandon;
+pub use batches::wentuhoro_commit;
+pub use batches::wentuhoro_offer;
+pub use batches::wentuhoro_release;
 pub use leaves::wentuhoro_class;
 pub use leaves::wentuhoro_cookie_read;
 pub use leaves::wentuhoro_cookie_verify;
 pub use leaves::wentuhoro_cookie_write;
 pub use leaves::wentuhoro_crc32;
 pub use leaves::wentuhoro_crc32_update;
+pub use leaves::wentuhoro_fragmentation_cutoff;
 pub use leaves::wentuhoro_frame_read;
 pub use leaves::wentuhoro_frame_write;
 pub use leaves::wentuhoro_pack;
 pub use leaves::wentuhoro_unpack;
+pub use night::wentuhoro_cut_done;
+pub use night::wentuhoro_defrag;
+pub use night::wentuhoro_truncation;
+pub use objects::wentuhoro_counters;
+pub use objects::wentuhoro_lookup;
+pub use objects::wentuhoro_new_id;
+pub use objects::wentuhoro_stats;
+pub use stores::wentuhoro_fresh;
+pub use stores::wentuhoro_rebuild;

@@ -1,0 +1,78 @@
+use mathlib.Core.Path.{_≡_, sym, ap, _∙_}
+use Rattle.model.specs.Memory.{memoryOf}
+use Rattle.offer.specs.Outcome.{Left, offerLeaves}
+use Rattle.exports.proofs.Laws.{offered-status, offer-memory}
+use borrow.Author.Needs.{needs}
+use Rattle.exports.proofs.batches.wentuhoro_offer.Statement.{statement}
+use Rattle.exports.proofs.batches.wentuhoro_offer.Tie as tie
+
+offer-requires : tie.Need-offer-requires
+offer-requires c κs = search needs
+
+enum-told : tie.Need-enum-told
+enum-told c = search needs
+
+enum-known-r : tie.Need-enum-known-r
+enum-known-r c = search needs
+
+status-requires : tie.Need-status-requires
+status-requires c κs = search needs
+
+same-length : tie.Need-same-length
+same-length c = search needs
+
+same-length-2 : tie.Need-same-length-2
+same-length-2 c = search needs
+
+same-length-3 : tie.Need-same-length-3
+same-length-3 c = search needs
+
+same-length-4 : tie.Need-same-length-4
+same-length-4 c = search needs
+
+returns : tie.Need-returns
+unfolding offerLeaves
+returns c =
+    let a = c .before .before .before .before .before .before .before .before .before .before .before .before .before .before .before .before .before .before .before .before .before .before .before .before .before .args in
+    let m = memoryOf (a .ids) (a .slots) (a .id-marks .now) (a .locations .now) (a .slot-marks .now) (a .owners .now) (a .batch .now) (a .tallies .now) in
+    let e = c .before .before .before .before .before .before .before .before .before .before .offer .ensures in
+    (offered-status (c .before .before .before .before .before .before .before .before .before .before .offer .result) _ _ _ _ _ _ e (c .enum-told .given .1), (offer-memory m (a .update-ids .now) (a .stores .now) (a .lengths .now) (a .placed .now) _ _ _ (ap (λ (w : Left). w .slotMarks) e) (ap (λ (w : Left). w .batch) e) (ap (λ (w : Left). w .tallies) e), ap (λ (w : Left). w .placed) e))
+
+same-length-5 : tie.Need-same-length-5
+same-length-5 c = search needs
+
+same-length-6 : tie.Need-same-length-6
+same-length-6 c = search needs
+
+same-length-7 : tie.Need-same-length-7
+same-length-7 c = search needs
+
+same-length-8 : tie.Need-same-length-8
+same-length-8 c = search needs
+
+returns-2 : tie.Need-returns-2
+unfolding offerLeaves
+returns-2 c =
+    let a = c .before .before .before .before .before .before .before .before .before .before .before .before .before .before .before .before .before .before .before .before .before .before .before .before .before .before .before .args in
+    let m = memoryOf (a .ids) (a .slots) (a .id-marks .now) (a .locations .now) (a .slot-marks .now) (a .owners .now) (a .batch .now) (a .tallies .now) in
+    let e = c .before .before .before .before .before .before .before .before .before .before .before .before .offer .ensures in
+    (c .status .ensures ∙ offered-status (c .before .before .before .before .before .before .before .before .before .before .before .before .offer .result) _ _ _ _ _ _ e (c .before .before .r .given .1), (offer-memory m (a .update-ids .now) (a .stores .now) (a .lengths .now) (a .placed .now) _ _ _ (ap (λ (w : Left). w .slotMarks) e) (ap (λ (w : Left). w .batch) e) (ap (λ (w : Left). w .tallies) e), ap (λ (w : Left). w .placed) e))
+
+pub wentuhoro-offer-spec : {M : Type 1} → statement M
+wentuhoro-offer-spec =
+    tie.close
+    (tie.spec
+    offer-requires
+    enum-told
+    enum-known-r
+    status-requires
+    same-length
+    same-length-2
+    same-length-3
+    same-length-4
+    returns
+    same-length-5
+    same-length-6
+    same-length-7
+    same-length-8
+    returns-2)

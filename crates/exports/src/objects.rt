@@ -1,0 +1,133 @@
+// One object: its id, where it lies, and what was granted and freed.
+ghost use mathlib.Core.Path.{_≡_};
+ghost use mathlib.Core.List.{List, []};
+ghost use Prim.Native.Nat.{ℕ};
+ghost use Rattle.model.specs.Store.{newId, lookup, counters};
+ghost use Rattle.model.specs.Memory.{Memory, memoryOf, read};
+ghost use Rattle.model.specs.MemoryAfter.{memoryAfter};
+ghost use Rattle.model.specs.Step.{answer};
+ghost use Rattle.object_ids.specs.Counts.{listed, grantedIn, freedIn};
+ghost use Rattle.exports.specs.Status.{statusOf, Exported, exported};
+ghost use Rattle.exports.specs.Answers.{outcomeOf, whereFits};
+use crate::status::WRONG_LENGTH;
+use crate::status::status;
+use crate::values;
+use lookup::Looked;
+use object_ids::Counted;
+use object_ids::NewId;
+use tables::Capacities;
+
+// The smallest free id above 0, held from now on. One value.
+#[no_mangle]
+pub extern "C" fn wentuhoro_new_id(
+    ids: usize,
+    slots: usize,
+    id_marks: &mut [u8],
+    batch: &[u64],
+    tallies: &mut [u64],
+    id: &mut [u64],
+) -> u64
+    ensures { λ r. ⌜ _≡_ {A = Exported} (record { status = r; lent = now (id .exit) })
+        (exported 1 (outcomeOf (answer (read (memoryOf ids slots (now («id_marks» .entry)) [] [] [] (now (batch .entry)) (now (tallies .entry)))) newId)) (now (id .entry))) ⌝ }
+    ensures { λ _. ⌜ _≡_ {A = Memory} (memoryOf ids slots (now («id_marks» .exit)) [] [] [] (now (batch .entry)) (now (tallies .exit)))
+        (whereFits 1 (now (id .entry)) (memoryAfter (memoryOf ids slots (now («id_marks» .entry)) [] [] [] (now (batch .entry)) (now (tallies .entry))) newId) (memoryOf ids slots (now («id_marks» .entry)) [] [] [] (now (batch .entry)) (now (tallies .entry)))) ⌝ }
+{
+    if id.len() != 1 {
+        return WRONG_LENGTH;
+    }
+    let caps = Capacities { ids, slots };
+    match object_ids::allocate_object_id(caps, id_marks, batch, tallies) {
+        NewId::Id(found) => {
+            id[0] = found;
+            0
+        }
+        NewId::Refused(r) => status(r),
+    }
+}
+
+// The location of an object. One value.
+#[no_mangle]
+pub extern "C" fn wentuhoro_lookup(
+    ids: usize,
+    slots: usize,
+    id_marks: &[u8],
+    locations: &[u64],
+    slot_marks: &[u8],
+    owners: &[u64],
+    tallies: &[u64],
+    id: u64,
+    location: &mut [u64],
+) -> u64
+    ensures { λ r. ⌜ _≡_ {A = Exported} (record { status = r; lent = now (location .exit) })
+        (exported 1 (outcomeOf (answer (read (memoryOf ids slots (now («id_marks» .entry)) (now (locations .entry)) (now («slot_marks» .entry)) (now (owners .entry)) [] (now (tallies .entry)))) (lookup id))) (now (location .entry))) ⌝ }
+{
+    if location.len() != 1 {
+        return WRONG_LENGTH;
+    }
+    let caps = Capacities { ids, slots };
+    match lookup::get_location_for_object(
+        caps,
+        id_marks,
+        locations,
+        slot_marks,
+        owners,
+        tallies,
+        id,
+    ) {
+        Looked::Location(l) => {
+            location[0] = l;
+            0
+        }
+        Looked::Refused(r) => status(r),
+    }
+}
+
+// Ids granted, ids freed, slots granted, slots freed. Four values.
+#[no_mangle]
+pub extern "C" fn wentuhoro_stats(
+    ids: usize,
+    slots: usize,
+    tallies: &[u64],
+    sums: &mut [u64],
+) -> u64
+    ensures { λ r. ⌜ _≡_ {A = Exported} (record { status = r; lent = now (sums .exit) })
+        (exported 4 (outcomeOf (answer (read (memoryOf ids slots [] [] [] [] [] (now (tallies .entry)))) counters)) (now (sums .entry))) ⌝ }
+{
+    if sums.len() != 4 {
+        return WRONG_LENGTH;
+    }
+    let caps = Capacities { ids, slots };
+    match object_ids::stats(caps, tallies) {
+        Counted::Stats(stats) => {
+            values::four(
+                sums,
+                stats.objects_allocated,
+                stats.objects_freed,
+                stats.heap_slots_allocated,
+                stats.heap_slots_freed,
+            );
+            0
+        }
+        Counted::Refused(r) => status(r),
+    }
+}
+
+// What each allocator has granted and freed: the ids', then each slab's. 79 rows in both lists.
+#[no_mangle]
+pub extern "C" fn wentuhoro_counters(
+    ids: usize,
+    slots: usize,
+    tallies: &[u64],
+    granted: &mut [u64],
+    freed: &mut [u64],
+) -> u64
+    ensures { λ r. ⌜ r ≡ statusOf (outcomeOf (listed (now (granted .entry)) (now (freed .entry)) (answer (read (memoryOf ids slots [] [] [] [] [] (now (tallies .entry)))) counters))) ⌝ }
+    ensures { λ _. ⌜ now (granted .exit) ≡ grantedIn (listed (now (granted .entry)) (now (freed .entry)) (answer (read (memoryOf ids slots [] [] [] [] [] (now (tallies .entry)))) counters)) (now (granted .entry)) ⌝ }
+    ensures { λ _. ⌜ now (freed .exit) ≡ freedIn (listed (now (granted .entry)) (now (freed .entry)) (answer (read (memoryOf ids slots [] [] [] [] [] (now (tallies .entry)))) counters)) (now (freed .entry)) ⌝ }
+{
+    let caps = Capacities { ids, slots };
+    match object_ids::counters(caps, tallies, granted, freed) {
+        Counted::Stats(_) => 0,
+        Counted::Refused(r) => status(r),
+    }
+}
