@@ -2,14 +2,12 @@
 use mathlib.Core.Path.{_≡_, refl, sym, ap, _∙_}
 use mathlib.Core.Bool.{Bool}
 use mathlib.Core.List.{List, [], _∷_}
-use Prim.Native.Nat.{ℕ, suc, _+_, _*_, _%_, _^_, _<_}
+use Prim.Native.Nat.{ℕ, _+_, _*_, _^_, _<_}
 use native.Mathlib.Omega.{arith}
-use lib.Dec.{eqb}
 use lib.Ieee.{Float}
 use lib.ListN.{length, set}
 use borrow.Author.Tests.{eq-eqb, ne-eqb}
-use Rattle.refusal.specs.Refusals.{wrongShape}
-use Rattle.refusal.specs.Outcomes.{Outcome, granted, refusedWith}
+use Rattle.refusal.specs.Outcomes.{Outcome, refusedWith}
 use Rattle.model.specs.Store.{Store, Answer, refused, gave, offer, defrag}
 use Rattle.model.specs.Batches.{takenBy, updatesOf}
 use Rattle.model.specs.Memory.{Memory, memoryOf, read}
@@ -22,7 +20,7 @@ use Rattle.offer.specs.declared.Offered.the-variants as O
 use Rattle.defrag.specs.Answers.{defragOf}
 use Rattle.defrag.specs.declared.Defrag.{Defrag}
 use Rattle.defrag.specs.declared.Defrag.the-variants as D
-use Rattle.exports.specs.Status.{statusOf, valuesIn, Exported, exported}
+use Rattle.exports.specs.Status.{statusOf, valuesIn, exported}
 use Rattle.exports.specs.Answers.{outcomeOf, whereFits}
 
 -- an index below 2^56 comes back from a status

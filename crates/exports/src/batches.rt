@@ -1,7 +1,6 @@
 // Offer, commit, abandon and release.
 ghost use mathlib.Core.Path.{_≡_};
-ghost use mathlib.Core.List.{List, []};
-ghost use Prim.Native.Nat.{ℕ};
+ghost use mathlib.Core.List.{[]};
 ghost use Rattle.model.specs.Store.{offer, commit, abandon, release};
 ghost use Rattle.model.specs.Lent.{placedIn};
 ghost use Rattle.model.specs.Memory.{Memory, memoryOf, read};

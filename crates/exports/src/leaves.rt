@@ -1,7 +1,5 @@
 // Classes, checks, frames, cookies, addresses and cutoffs.
 ghost use mathlib.Core.Path.{_≡_};
-ghost use mathlib.Core.List.{List};
-ghost use Prim.Native.Nat.{ℕ};
 ghost use Rattle.crc32.specs.Crc32.{crcOver, crc32};
 ghost use Rattle.sizes.specs.Sizes.{classOf};
 ghost use Rattle.sizes.specs.Outcomes.{classOutcome};

@@ -1,7 +1,6 @@
 // The night's work: what to move, and which files to cut.
 ghost use mathlib.Core.Path.{_≡_};
-ghost use mathlib.Core.List.{List, []};
-ghost use Prim.Native.Nat.{ℕ};
+ghost use mathlib.Core.List.{[]};
 ghost use Rattle.model.specs.Store.{defrag, truncation, report};
 ghost use Rattle.model.specs.Lent.{movedIn, movedTo};
 ghost use Rattle.model.specs.Memory.{Memory, memoryOf, read};

@@ -1,7 +1,6 @@
 // One object: its id, where it lies, and what was granted and freed.
 ghost use mathlib.Core.Path.{_≡_};
-ghost use mathlib.Core.List.{List, []};
-ghost use Prim.Native.Nat.{ℕ};
+ghost use mathlib.Core.List.{[]};
 ghost use Rattle.model.specs.Store.{newId, lookup, counters};
 ghost use Rattle.model.specs.Memory.{Memory, memoryOf, read};
 ghost use Rattle.model.specs.MemoryAfter.{memoryAfter};

@@ -1,7 +1,5 @@
 // A store made new: fresh, or rebuilt from its live ids and locations.
 ghost use mathlib.Core.Path.{_≡_};
-ghost use mathlib.Core.List.{List, []};
-ghost use Prim.Native.Nat.{ℕ};
 ghost use Rattle.model.specs.Store.{fresh, rebuild};
 ghost use Rattle.model.specs.Memory.{Memory, memoryOf, read};
 ghost use Rattle.model.specs.MemoryAfter.{memoryAfter};

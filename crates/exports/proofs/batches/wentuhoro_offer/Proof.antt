@@ -1,4 +1,4 @@
-use mathlib.Core.Path.{_≡_, sym, ap, _∙_}
+use mathlib.Core.Path.{ap, _∙_}
 use Rattle.model.specs.Memory.{memoryOf}
 use Rattle.offer.specs.Outcome.{Left, offerLeaves}
 use Rattle.exports.proofs.Laws.{offered-status, offer-memory}

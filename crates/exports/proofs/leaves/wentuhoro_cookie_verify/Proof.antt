@@ -1,6 +1,5 @@
-use mathlib.Core.Path.{_≡_, refl, sym, ap, _∙_}
-use Prim.Native.Nat.{ℕ}
-use Rattle.exports.specs.Status.{statusOf, valuesIn}
+use mathlib.Core.Path.{sym, ap, _∙_}
+use Rattle.exports.specs.Status.{statusOf}
 use Rattle.settings.specs.declared.Verified.{Verified}
 use Rattle.settings.specs.Outcomes.{verifiedOutcome}
 use borrow.Author.Needs.{needs}

@@ -1,4 +1,4 @@
-use mathlib.Core.Path.{_≡_, sym, ap, _∙_}
+use mathlib.Core.Path.{sym, ap, _∙_}
 use Rattle.fragmentation.specs.declared.Cutoff.{Cutoff}
 use Rattle.exports.specs.Status.{statusOf, valuesIn, cutoffInTwo}
 use Rattle.exports.proofs.Laws.{exported-short, exported-is}

@@ -1,6 +1,5 @@
-use mathlib.Core.Path.{_≡_, refl, sym, ap, _∙_}
-use Prim.Native.Nat.{ℕ}
-use Rattle.exports.specs.Status.{statusOf, valuesIn}
+use mathlib.Core.Path.{_≡_, sym, ap, _∙_}
+use Rattle.exports.specs.Status.{statusOf}
 use Rattle.frame.specs.Frame.{Writing}
 use Rattle.frame.specs.declared.Written.{Written}
 use Rattle.frame.specs.Outcomes.{writtenOutcome}

@@ -1,4 +1,4 @@
-use mathlib.Core.Path.{_≡_, sym, ap, _∙_}
+use mathlib.Core.Path.{sym, ap, _∙_}
 use Rattle.address.specs.declared.Unpacked.{Unpacked}
 use Rattle.exports.specs.Status.{statusOf, valuesIn, unpackedInThree}
 use Rattle.exports.proofs.Laws.{exported-short, exported-is}

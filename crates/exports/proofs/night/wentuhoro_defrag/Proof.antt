@@ -1,4 +1,4 @@
-use mathlib.Core.Path.{_≡_, sym, ap, _∙_}
+use mathlib.Core.Path.{sym, ap, _∙_}
 use Rattle.refusal.specs.Outcomes.{Outcome}
 use Rattle.defrag.specs.declared.Defrag.{Defrag}
 use Rattle.exports.specs.Status.{statusOf, valuesIn}

@@ -1,4 +1,4 @@
-use mathlib.Core.Path.{_≡_, refl, sym, ap, _∙_}
+use mathlib.Core.Path.{refl, sym, _∙_}
 use Rattle.truncation.specs.Truncations.{truncatedAnswer}
 use Rattle.exports.proofs.Laws.{exported-short, told-exported, whereFits-fits, whereFits-short}
 use borrow.Author.Needs.{needs}

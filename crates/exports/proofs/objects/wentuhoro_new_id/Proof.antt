@@ -1,4 +1,4 @@
-use mathlib.Core.Path.{_≡_, refl, sym, ap, _∙_}
+use mathlib.Core.Path.{refl, sym, _∙_}
 use Rattle.object_ids.specs.NewIds.{newIdAnswer}
 use Rattle.exports.proofs.Laws.{exported-short, told-exported, one-word, whereFits-short, whereFits-fits}
 use borrow.Author.Needs.{needs}
