@@ -1,17 +1,15 @@
 -- Laws of addresses: what is unpacked is in range, and packing and unpacking undo each other. Assumes nothing.
 use mathlib.Core.Bool.{Bool, true, false, cond, _&&_, _||_}
-use mathlib.Core.Path.{_≡_, refl, sym, ap, _∙_}
-use Prim.Native.Nat.{ℕ, _+_, _*_, _-_, _≤_, _<_, _/_, _%_}
+use mathlib.Core.Path.{_≡_, refl}
+use Prim.Native.Nat.{ℕ, _+_, _-_, _≤_, _<_, _/_, _%_}
 use native.Mathlib.Omega.{arith}
 use lib.Dec.{leb, ltb, eqb}
 use borrow.Author.Tests.{ltb-true, ltb-false, leb-true, leb-false, lt-ltb, le-leb, lt-leb, ne-eqb}
 use Rattle.refusal.specs.Refusals.{refusal, wrongShape, outOfRange}
-use Rattle.refusal.proofs.Tests.{clash, or-false}
+use Rattle.refusal.proofs.Tests.{or-false}
 use Rattle.address.specs.Address.{badSlots, packing, packed, unpacked, unit, slabs}
 use Rattle.address.specs.declared.SlabAddress.{SlabAddress}
-use Rattle.address.specs.declared.Packed.{Packed}
 use Rattle.address.specs.declared.Packed.the-variants as P
-use Rattle.address.specs.declared.Unpacked.{Unpacked}
 use Rattle.address.specs.declared.Unpacked.the-variants as U
 
 -- ---- badSlots

@@ -1,7 +1,7 @@
 -- Each case gives what document 01 says: one claim over the table, which antt computes. Assumes nothing.
 use mathlib.Core.Path.{_≡_, refl}
 use mathlib.Core.Bool.{true}
-use lib.Ieee.{binary32, div, le, lt, eq, ofInt, toUnsigned, round, units, odd, size, span, climb}
+use lib.Ieee.{div, le, lt, eq, ofInt, toUnsigned, round, units, odd, size, span, climb}
 use Rattle.sizes.specs.Sizes.{classOf, slabFor, firstFit, slabSizes, fieldWidth, sizeOf}
 use Rattle.address.specs.Address.{badSlots, packed, unpacked}
 use Rattle.fragmentation.specs.Cutoff.{isRatio, cutoff}

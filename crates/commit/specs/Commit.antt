@@ -1,28 +1,14 @@
--- Commit: the memory that it is lent, and what its answer says. `badUpdate` and `rowBad` need not be believed: proofs/Laws.antt shows that
+-- What a commit's answer says. `badUpdate` and `rowBad` need not be believed: proofs/Laws.antt shows that
 -- they say what the model says of a row. Assumes nothing.
 use mathlib.Core.Bool.{Bool, _||_}
 use mathlib.Core.List.{List}
 use Prim.Native.Nat.{ℕ}
 use lib.ListN.{getD}
 use Rattle.model.specs.Store.{Answer, refused, done, Row}
-use Rattle.model.specs.Memory.{Memory}
 use Rattle.tables.specs.Entries.{badIn}
 use Rattle.kept.specs.Kept.{outOfRange}
 use Rattle.commit.specs.declared.Committed.{Committed}
 use Rattle.commit.specs.declared.Committed.the-variants as C
-
--- capacities of ids and of slots, id marks, locations, slot marks, owners, batch, tallies
-abbrev pub commitMemory : ℕ → ℕ → List ℕ → List ℕ → List ℕ → List ℕ → List ℕ → List ℕ → Memory
-commitMemory ids slots idMarks locations slotMarks owners batch tallies = record {
-  ids = ids;
-  slots = slots;
-  idMarks = idMarks;
-  locations = locations;
-  slotMarks = slotMarks;
-  owners = owners;
-  batch = batch;
-  tallies = tallies;
-}
 
 abbrev pub committedAnswer : Committed → Answer
 committedAnswer C.Done = done

@@ -3,10 +3,10 @@ ghost use mathlib.Core.Path.{_≡_};
 ghost use Prim.Native.Nat.{pred};
 ghost use lib.ListN.{getD};
 ghost use Rattle.model.specs.Store.{commit};
-ghost use Rattle.model.specs.Memory.{read};
+ghost use Rattle.model.specs.Memory.{read, memoryOf};
 ghost use Rattle.model.specs.Step.{refusal};
 ghost use Rattle.kept.specs.Kept.{rowsFrom, firstBad, rowsAs};
-ghost use Rattle.commit.specs.Commit.{commitMemory, badUpdate, rowBad};
+ghost use Rattle.commit.specs.Commit.{badUpdate, rowBad};
 use kept::Rows;
 use refusal::Refusal;
 use tables::Capacities;
@@ -68,7 +68,7 @@ pub(crate) fn check(
     batch: &[u64],
     tallies: &[u64],
 ) -> Rows
-    ensures { λ r. ⌜ r ≡ rowsAs (refusal (read (commitMemory (caps .ids) (caps .slots) (now («id_marks» .entry)) (now (locations .entry)) (now («slot_marks» .entry)) (now (owners .entry)) (now (batch .entry)) (now (tallies .entry)))) commit) (pred (getD (now (batch .entry)) 0 0)) ⌝ }
+    ensures { λ r. ⌜ r ≡ rowsAs (refusal (read (memoryOf (caps .ids) (caps .slots) (now («id_marks» .entry)) (now (locations .entry)) (now («slot_marks» .entry)) (now (owners .entry)) (now (batch .entry)) (now (tallies .entry)))) commit) (pred (getD (now (batch .entry)) 0 0)) ⌝ }
 {
     if !tables::all_fit(
         caps,

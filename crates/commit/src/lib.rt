@@ -17,11 +17,11 @@ ghost use lib.ListN.{length, getD};
 ghost use Rattle.address.specs.Address.{slabs, badSlots};
 ghost use Rattle.model.specs.Store.{commit};
 ghost use Rattle.model.specs.Tables.{write};
-ghost use Rattle.model.specs.Memory.{Memory, read, word, waitingWords};
+ghost use Rattle.model.specs.Memory.{Memory, read, word, waitingWords, memoryOf};
 ghost use Rattle.model.specs.MemoryAfter.{memoryAfter, Slots, readySlab, pendSlot, readyMarks, readyWords, commitRow, commitAll};
 ghost use Rattle.model.specs.Step.{answer};
 ghost use Rattle.kept.specs.Kept.{rowsFrom};
-ghost use Rattle.commit.specs.Commit.{commitMemory, committedAnswer};
+ghost use Rattle.commit.specs.Commit.{committedAnswer};
 use address::SlabAddress;
 use address::Unpacked;
 use check::check;
@@ -102,7 +102,7 @@ fn apply_row(
     index: usize,
 )
     requires { ⌜ (badSlots (caps .slots) ≡ false) × (length (now «slot_marks») ≡ slabs * (caps .slots)) ⌝ }
-    ensures { λ _. ⌜ _≡_ {A = Memory} (commitMemory (caps .ids) (caps .slots) (now («id_marks» .exit)) (now (locations .exit)) (now («slot_marks» .exit)) (now (owners .exit)) (now (batch .entry)) (now (tallies .exit))) (commitRow (commitMemory (caps .ids) (caps .slots) (now («id_marks» .entry)) (now (locations .entry)) (now («slot_marks» .entry)) (now (owners .entry)) (now (batch .entry)) (now (tallies .entry))) (getD (now (batch .entry)) (1 + index) 0) (getD (now (batch .entry)) (257 + index) 0) (getD (now (locations .entry)) (getD (now (batch .entry)) (1 + index) 0) 0)) ⌝ }
+    ensures { λ _. ⌜ _≡_ {A = Memory} (memoryOf (caps .ids) (caps .slots) (now («id_marks» .exit)) (now (locations .exit)) (now («slot_marks» .exit)) (now (owners .exit)) (now (batch .entry)) (now (tallies .exit))) (commitRow (memoryOf (caps .ids) (caps .slots) (now («id_marks» .entry)) (now (locations .entry)) (now («slot_marks» .entry)) (now (owners .entry)) (now (batch .entry)) (now (tallies .entry))) (getD (now (batch .entry)) (1 + index) 0) (getD (now (batch .entry)) (257 + index) 0) (getD (now (locations .entry)) (getD (now (batch .entry)) (1 + index) 0) 0)) ⌝ }
 {
     let slots = caps.slots;
     let id = tables::get(batch, KEPT_IDS, index);
@@ -132,7 +132,7 @@ fn apply_rows(
     n: usize,
 )
     requires { ⌜ (badSlots (caps .slots) ≡ false) × (length (now «slot_marks») ≡ slabs * (caps .slots)) ⌝ }
-    ensures { λ _. ⌜ _≡_ {A = Memory} (commitMemory (caps .ids) (caps .slots) (now («id_marks» .exit)) (now (locations .exit)) (now («slot_marks» .exit)) (now (owners .exit)) (now (batch .entry)) (now (tallies .exit))) (commitAll (commitMemory (caps .ids) (caps .slots) (now («id_marks» .entry)) (now (locations .entry)) (now («slot_marks» .entry)) (now (owners .entry)) (now (batch .entry)) (now (tallies .entry))) (rowsFrom (now (batch .entry)) n 0)) ⌝ }
+    ensures { λ _. ⌜ _≡_ {A = Memory} (memoryOf (caps .ids) (caps .slots) (now («id_marks» .exit)) (now (locations .exit)) (now («slot_marks» .exit)) (now (owners .exit)) (now (batch .entry)) (now (tallies .exit))) (commitAll (memoryOf (caps .ids) (caps .slots) (now («id_marks» .entry)) (now (locations .entry)) (now («slot_marks» .entry)) (now (owners .entry)) (now (batch .entry)) (now (tallies .entry))) (rowsFrom (now (batch .entry)) n 0)) ⌝ }
 {
     let mut i: usize = 0;
     while i < n {
@@ -159,8 +159,8 @@ pub fn commit(
     batch: &mut [u64],
     tallies: &mut [u64],
 ) -> Committed
-    ensures answers { λ r. ⌜ committedAnswer r ≡ answer (read (commitMemory (caps .ids) (caps .slots) (now («id_marks» .entry)) (now (locations .entry)) (now («slot_marks» .entry)) (now (owners .entry)) (now (batch .entry)) (now (tallies .entry)))) commit ⌝ }
-    ensures leaves { λ r. ⌜ _≡_ {A = Memory} (commitMemory (caps .ids) (caps .slots) (now («id_marks» .exit)) (now (locations .exit)) (now («slot_marks» .exit)) (now (owners .exit)) (now (batch .exit)) (now (tallies .exit))) (memoryAfter (commitMemory (caps .ids) (caps .slots) (now («id_marks» .entry)) (now (locations .entry)) (now («slot_marks» .entry)) (now (owners .entry)) (now (batch .entry)) (now (tallies .entry))) commit) ⌝ }
+    ensures answers { λ r. ⌜ committedAnswer r ≡ answer (read (memoryOf (caps .ids) (caps .slots) (now («id_marks» .entry)) (now (locations .entry)) (now («slot_marks» .entry)) (now (owners .entry)) (now (batch .entry)) (now (tallies .entry)))) commit ⌝ }
+    ensures leaves { λ r. ⌜ _≡_ {A = Memory} (memoryOf (caps .ids) (caps .slots) (now («id_marks» .exit)) (now (locations .exit)) (now («slot_marks» .exit)) (now (owners .exit)) (now (batch .exit)) (now (tallies .exit))) (memoryAfter (memoryOf (caps .ids) (caps .slots) (now («id_marks» .entry)) (now (locations .entry)) (now («slot_marks» .entry)) (now (owners .entry)) (now (batch .entry)) (now (tallies .entry))) commit) ⌝ }
 {
     match check(
         caps,

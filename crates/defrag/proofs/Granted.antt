@@ -1,8 +1,8 @@
 -- What the tests on the way say of the call: its refusals in their order, and where it is granted, that the rows fit the lent lists. Assumes nothing.
 use mathlib.Core.Path.{_≡_, refl, ap, sym, _∙_}
 use mathlib.Core.Bool.{Bool, true, false, not, _&&_, and-assoc}
-use mathlib.Core.List.{List, []}
-use Prim.Native.Nat.{ℕ, suc, _+_, _-_, _*_, _<_, _≤_}
+use mathlib.Core.List.{List}
+use Prim.Native.Nat.{ℕ, suc, _+_, _-_, _*_, _≤_}
 use native.Mathlib.Omega.{arith}
 use lib.Dec.{ltb, eqb}
 use lib.ListN.{length, getD, length-map}
@@ -13,17 +13,17 @@ use Rattle.refusal.specs.Refusals.{wrongShape, batchOpen, ratioOutOfRange}
 use Rattle.refusal.proofs.Tests.{and-true, both-ways}
 use Rattle.address.specs.Address.{slabs}
 use Rattle.fragmentation.specs.Cutoff.{isRatio}
-use Rattle.model.specs.Store.{Answer, refused, moves, defrag, Row}
-use Rattle.model.specs.Step.{answer, answerBy, grant, refusal, shape, asLong}
-use Rattle.model.specs.Tables.{capacities, idsOf, locationsOf, locationsFit, slotMarksFit, ownersFit, batchFits, talliesFit}
+use Rattle.model.specs.Store.{refused, moves, defrag, Row}
+use Rattle.model.specs.Step.{answer, answerBy, grant, refusal}
+use Rattle.model.specs.Tables.{capacities, idsOf, locationsOf}
 use Rattle.model.specs.Defrag.{allMoves}
-use Rattle.model.specs.Verdict.{Verdict, ok, refuse, test, _⨾_}
+use Rattle.model.specs.Verdict.{test, _⨾_}
 use Rattle.model.specs.Memory.{Memory, read}
 use Rattle.model.specs.Lent.{over}
 use Rattle.histories.proofs.MovesFit.{moves-fit}
 use Rattle.tables.specs.Shapes.{defragFits}
 use Rattle.tables.proofs.Lengths.{defragFits-read}
-use Rattle.tables.proofs.Laws.{Ranges, capacities-range}
+use Rattle.tables.proofs.Laws.{capacities-range}
 
 -- ---- lengths
 

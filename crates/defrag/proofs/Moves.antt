@@ -1,27 +1,26 @@
 -- The rows by the lent tables are the model's moves. A slab's marks count by its own words, and neither the tip nor the live slots tell
 -- pending from held. Assumes nothing.
 use mathlib.Core.Path.{_≡_, refl, ap, sym, _∙_}
-use mathlib.Core.Bool.{Bool, true, false, not, _&&_, and-assoc}
-use mathlib.Core.List.{List, [], _∷_, _++_}
+use mathlib.Core.Bool.{Bool, true, false, _&&_}
+use mathlib.Core.List.{List, [], _++_}
 use Prim.Native.Nat.{ℕ, zero, suc, _+_, _-_, _*_, _<_, _≤_}
-use native.Mathlib.Numerals.{add-one}
 use native.Mathlib.Omega.{arith}
 use lib.Dec.{ltb, eqb}
 use lib.ListN.{length, getD, take, drop}
-use lib.Seq.{drop-cons, sets, sets-eq}
+use lib.Seq.{drop-cons}
 use lib.Ieee.{Float}
 use Rattle.address.specs.Address.{packing, slabs}
 use Rattle.id_allocator.specs.Marks.{isTaken, countIf, tip}
-use Rattle.id_allocator.specs.Counted.{counted, hinted}
+use Rattle.id_allocator.specs.Counted.{counted}
 use Rattle.id_allocator.proofs.LawsCounted.{counted-live, counted-tip}
 use Rattle.fragmentation.specs.Cutoff.{cutoff}
 use Rattle.model.specs.Store.{Store, Row}
-use Rattle.model.specs.Tables.{part, slabTip, live, locationOf, inIds}
+use Rattle.model.specs.Tables.{part, slabTip, live}
 use Rattle.model.specs.Defrag.{consIf, movable, movesIn, slabMoves, movesFrom, allMoves}
 use Rattle.model.specs.Memory.{Memory, read, word, hintWords, waitingWords, usedWords}
 use Rattle.model.proofs.Slabs.{part-countedSlabs}
 use Rattle.model.proofs.Tables.{part-at}
-use Rattle.defrag.specs.Listed.{movableAt, rowOf, rowsOf, marksOf, tipIn, spanOf, rowsIn, slabRows, rowsFrom}
+use Rattle.defrag.specs.Listed.{rowOf, rowsOf, marksOf, tipIn, spanOf, slabRows, rowsFrom}
 use Rattle.defrag.proofs.Spans.{span-in, inside}
 
 -- ---- of a slab

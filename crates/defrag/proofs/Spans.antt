@@ -1,6 +1,6 @@
 -- Laws of the slots to look at: the cutoff of a slab is never refused, since its live slots are at most its tip and that at most its slots.
 -- Assumes nothing.
-use mathlib.Core.Path.{_≡_, refl, ap, sym, _∙_}
+use mathlib.Core.Path.{_≡_, refl, ap, _∙_}
 use mathlib.Core.Bool.{Bool, true, false, cond}
 use mathlib.Core.List.{List, [], _++_}
 use Prim.Native.Nat.{ℕ, suc, _+_, _-_, _*_, _<_, _≤_}
@@ -12,8 +12,7 @@ use lib.ListN.{length, getD, take, drop, length-drop, length-take}
 use lib.Seq.{length-take-le}
 use lib.Ieee.{Float}
 use borrow.Author.Tests.{le-ltb, ltb-false, lt-leb}
-use Rattle.address.specs.Address.{badSlots, packed, packing, slabs}
-use Rattle.address.specs.declared.SlabAddress.{SlabAddress}
+use Rattle.address.specs.Address.{badSlots, packed, packing}
 use Rattle.id_allocator.specs.Marks.{isTaken, countIf, tip}
 use Rattle.id_allocator.specs.Counted.{hinted}
 use Rattle.id_allocator.proofs.LawsCount.{live-le-tip, tip-le}

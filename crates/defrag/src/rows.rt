@@ -1,10 +1,8 @@
 // Rows of an id and a location, written one after the other. A row past the end of the lent lists is not written: the contract of
 // the whole call says that there is none.
 ghost use mathlib.Core.Path.{_≡_};
-ghost use mathlib.Core.Bool.{_&&_};
 ghost use Prim.Native.Nat.{_+_, _<_, _^_};
-ghost use lib.Dec.{ltb, eqb};
-ghost use lib.ListN.{length, getD};
+ghost use lib.ListN.{length};
 ghost use lib.Seq.{sets};
 ghost use Rattle.model.specs.Tables.{idsOf, locationsOf};
 ghost use Rattle.defrag.specs.Listed.{movableAt, rowOf, rowsOf};

@@ -1,7 +1,7 @@
 -- Laws of frames, over every slab size, and so over every width of the length field. Assumes nothing.
 use mathlib.Core.Bool.{Bool, true, false, not, cond}
-use mathlib.Core.Path.{_≡_, refl, sym, ap, _∙_}
-use mathlib.Core.List.{List, [], _∷_, _++_, append-assoc}
+use mathlib.Core.Path.{_≡_, refl, ap, _∙_}
+use mathlib.Core.List.{List, _++_, append-assoc}
 use Prim.Native.Nat.{ℕ, _+_, _-_, _^_, _≤_, _<_}
 use native.Mathlib.Nat.{lt-of-le-of-lt}
 use native.Mathlib.Omega.{arith}
@@ -10,14 +10,13 @@ use lib.ListN.{length, take, drop, replicate, length-append, length-take, length
 use lib.Seq.{take-at, drop-at, take-all, take-append-seam}
 use borrow.Author.Tests.{le-leb, le-ltb, ltb-false}
 use Rattle.refusal.specs.Refusals.{refusal, wrongShape, checkDiffers, tooLong}
-use Rattle.refusal.proofs.Tests.{clash}
 use Rattle.little_endian.specs.LittleEndian.{word, bytesOf, getAt, putAt}
-use Rattle.little_endian.proofs.Laws.{Bytes, append-bytes, zero-bytes, take-bytes, bytesOf-bytes, bytesOf-zero, length-bytesOf, word-bytesOf, putAt-next}
+use Rattle.little_endian.proofs.Laws.{Bytes, append-bytes, zero-bytes, bytesOf-bytes, bytesOf-zero, length-bytesOf, word-bytesOf, putAt-next}
 use Rattle.parts.proofs.Parts.{length-part, drop-part}
 use Rattle.sizes.specs.Sizes.{isSlabSize, fieldWidth, checkWidth, room}
 use Rattle.sizes.proofs.Laws.{fieldWidth-le, isSlabSize-most, room-frame, room-lt}
 use Rattle.seal.specs.Seal.{checkOf, signed, isSigned, resigned}
-use Rattle.seal.proofs.Laws.{length-signed, signed-bytes, isSigned-signed, signed-isSigned, resigned-body}
+use Rattle.seal.proofs.Laws.{length-signed, isSigned-signed, resigned-body}
 use Rattle.frame.specs.Frame.{body, framed, storedLength, verdictOf, part}
 use Rattle.frame.specs.declared.Verdict.{Verdict}
 use Rattle.frame.specs.declared.Verdict.the-variants as R

@@ -15,7 +15,7 @@ use Rattle.id_allocator.specs.Marks.{isFree, isTaken, countIf, tip}
 use Rattle.model.specs.Store.{Store, Update, put, free, Row, Call, newId, release, offer, commit, abandon, fresh, rebuild, lookup, counters, defrag, truncation, report}
 use Rattle.model.specs.Store.{Answer, refused, done, gave, placed, counts, moves, keep, cut}
 use Rattle.model.specs.Verdict.{Verdict, ok, refuse}
-use Rattle.model.specs.Tables.{part, slabTip, capacities, sized, locationOf, heldId, idsOf, locationsOf, elem, isOpen}
+use Rattle.model.specs.Tables.{part, capacities, sized, locationOf, heldId, idsOf, locationsOf, elem, isOpen}
 use Rattle.model.specs.Batches.{updatesOf}
 use Rattle.model.specs.Rebuild.{rowsOf, freshStore}
 use Rattle.model.specs.Defrag.{allMoves}

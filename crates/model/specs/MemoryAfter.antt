@@ -10,8 +10,7 @@ use Rattle.id_allocator.specs.Marks.{isFree, isPending, countIf, hold, letGo}
 use Rattle.id_allocator.specs.Counted.{settle, hinted}
 use Rattle.id_allocator.specs.Written.{givenBack, hintBack}
 use Rattle.model.specs.Store.{Row, Call, newId, release, offer, commit, abandon, fresh, rebuild, lookup, counters, defrag, truncation, report}
-use Rattle.model.specs.Verdict.{Verdict}
-use Rattle.model.specs.Tables.{at, write, writeAll, part, slabTip, locationsOf, kept, bump}
+use Rattle.model.specs.Tables.{write, writeAll, part, slabTip, locationsOf, kept, bump}
 use Rattle.model.specs.Ids.{nextId}
 use Rattle.model.specs.Batches.{updatesOf, takenBy}
 use Rattle.model.specs.Rebuild.{rowsOf, heldBy, locatedBy, ownedBy}

@@ -6,8 +6,8 @@ use mathlib.Core.List.{List, [], _∷_}
 use Prim.Native.Nat.{ℕ}
 use lib.ListN.{set, replicate}
 use lib.IntN.{pos, negsuc}
-use lib.Ieee.{Float, nan, inf, fin}
-use Rattle.model.specs.Store.{Store, Call, newId, release, offer, commit, abandon, fresh, rebuild, lookup, counters, defrag, truncation, report}
+use lib.Ieee.{nan, inf, fin}
+use Rattle.model.specs.Store.{Store, Call, newId, release, offer, commit, abandon, fresh, rebuild, lookup, counters, truncation, report}
 use Rattle.model.specs.Store.{Answer, refused, done, gave, placed, counts, moves, keep, cut}
 use Rattle.model.specs.Rebuild.{freshStore}
 use Rattle.model.specs.Step.{answer, next}

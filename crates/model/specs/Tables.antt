@@ -1,13 +1,13 @@
 -- The tables of a store: where a slot stands, the lengths they must have, and what they say of an id, a slot and the kept batch.
 -- Assumes nothing.
-use mathlib.Core.Bool.{Bool, true, false, not, cond, _&&_, _||_}
+use mathlib.Core.Bool.{Bool, false, not, cond, _&&_, _||_}
 use mathlib.Core.List.{List, [], _∷_, map}
 use Prim.Native.Nat.{ℕ, zero, suc, _+_, _*_, _/_, _%_, _^_, pred}
-use lib.Dec.{leb, ltb, eqb}
+use lib.Dec.{ltb, eqb}
 use lib.ListN.{length, getD, set, take, drop}
 use Rattle.address.specs.Address.{slabs, unit, isLocation, badSlots}
 use Rattle.id_allocator.specs.Marks.{isHeld, tip, countIf, isTaken}
-use Rattle.model.specs.Store.{Batch, Tallies, Store, Row}
+use Rattle.model.specs.Store.{Batch, Store, Row}
 
 -- ---- slots
 

@@ -1,11 +1,11 @@
 -- Document 01, "Defrag and truncation": the length that a slab's file is cut to. Assumes nothing.
-use mathlib.Core.Bool.{Bool, true, false, not, cond, _&&_}
+use mathlib.Core.Bool.{Bool, true, false, cond, _&&_}
 use mathlib.Core.List.{List}
 use Prim.Native.Nat.{ℕ, zero, suc, _-_, _*_, _/_, max}
 use lib.Dec.{leb, ltb}
 use lib.ListN.{getD, set}
 use Rattle.sizes.specs.Sizes.{sizeOf}
-use Rattle.model.specs.Store.{Tallies, Store, withTallies, Answer, refused, done, gave, placed, counts, moves, keep, cut}
+use Rattle.model.specs.Store.{Store, withTallies, Answer, refused, done, gave, placed, counts, moves, keep, cut}
 
 -- t is 1 to 86
 abbrev pub isTarget : ℕ → Bool

@@ -16,7 +16,7 @@ use Rattle.refusal.proofs.Tests.{and-true}
 use Rattle.address.specs.Address.{slabs, badSlots}
 use Rattle.model.specs.Batches.{updatesOf, takenBy}
 use Rattle.model.specs.Lent.{over}
-use Rattle.model.specs.Memory.{Memory, read}
+use Rattle.model.specs.Memory.{Memory, read, memoryOf}
 use Rattle.model.specs.MemoryAfter.{Slots, slotsOf, takeSlots, keptWords, memoryEffect, memoryAfter}
 use Rattle.model.specs.Step.{refusal, grant, answer, asLong}
 use Rattle.model.specs.Store.{offer, refused, placed}
@@ -28,7 +28,7 @@ use Rattle.model.proofs.Steps.{Fits}
 use Rattle.tables.specs.Shapes.{allFit}
 use Rattle.tables.proofs.Lengths.{allFit-read}
 use Rattle.offer.specs.Kinds.{noKinds, kindsOf, checkIn}
-use Rattle.offer.specs.Outcome.{offerLeaves, answerOf, memoryOf}
+use Rattle.offer.specs.Outcome.{offerLeaves, answerOf}
 use Rattle.offer.specs.Verdicts.{offerFits, verdictOf}
 use Rattle.offer.specs.Places.{slotsIn, placeIn}
 use Rattle.offer.specs.Room.{noneAsked, tallied, roomIn}

@@ -20,13 +20,12 @@ use Rattle.sizes.specs.declared.Class.the-variants.{Slab, Refused}
 use Rattle.sizes.proofs.Laws.{length-slabSizes}
 use Rattle.address.specs.Address.{badSlots}
 use Rattle.model.specs.Batches.{updateOf, updatesOf, updates, noClass, idOf}
-use Rattle.model.specs.Memory.{Memory, read}
+use Rattle.model.specs.Memory.{Memory, read, memoryOf}
 use Rattle.model.specs.Tables.{elem, heldId, badLocation}
 use Rattle.model.specs.Verdict.{Verdict, ok, refuse, test, _⨾_}
 use Rattle.model.proofs.Tables.{elem-cases}
 use Rattle.tables.specs.Entries.{heldIn, badIn}
 use Rattle.tables.proofs.LawsEntries.{heldIn-read, badIn-read}
-use Rattle.offer.specs.Outcome.{memoryOf}
 use Rattle.offer.specs.Kinds.{noKinds, kindOf, kindsOf, before, numberBy, rowNumber, sayAt, checkIn}
 
 -- ---- the slab of an update

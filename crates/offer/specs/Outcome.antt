@@ -15,19 +15,6 @@ abbrev pub answerOf : Offered → List ℕ → Answer
 answerOf O.Done ls = placed ls
 answerOf (O.Refused r) ls = refused (r .number) (r .index)
 
--- the capacities and the six tables
-abbrev pub memoryOf : ℕ → ℕ → List ℕ → List ℕ → List ℕ → List ℕ → List ℕ → List ℕ → Memory
-memoryOf ids slots idMarks locations slotMarks owners batch tallies = record {
-  ids = ids;
-  slots = slots;
-  idMarks = idMarks;
-  locations = locations;
-  slotMarks = slotMarks;
-  owners = owners;
-  batch = batch;
-  tallies = tallies;
-}
-
 -- what an offer leaves: its answer, the tables that it may change, and the lent list
 pub record Left : Type 0 where
   pub answer : Answer

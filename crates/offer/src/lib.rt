@@ -13,7 +13,8 @@
 ghost use mathlib.Core.Path.{_≡_};
 ghost use mathlib.Core.List.{[]};
 ghost use Rattle.model.specs.Verdict.{_⨾_};
-ghost use Rattle.offer.specs.Outcome.{answerOf, memoryOf, Left, offerLeaves};
+ghost use Rattle.model.specs.Memory.{memoryOf};
+ghost use Rattle.offer.specs.Outcome.{answerOf, Left, offerLeaves};
 ghost use Rattle.offer.specs.Verdicts.{verdictOf, offerFits};
 ghost use Rattle.offer.specs.Kinds.{checkIn};
 ghost use Rattle.offer.specs.Room.{roomIn, tallied, noneAsked};

@@ -6,7 +6,7 @@ ghost use Prim.Native.Nat.{_<_};
 ghost use lib.ListN.{length, getD};
 ghost use lib.Seq.{sets};
 ghost use Rattle.model.specs.Tables.{elem};
-ghost use Rattle.offer.specs.Outcome.{memoryOf};
+ghost use Rattle.model.specs.Memory.{memoryOf};
 ghost use Rattle.offer.specs.Verdicts.{verdictOf};
 ghost use Rattle.offer.specs.Kinds.{noKinds, kindOf, kindsOf, before, rowNumber, checkIn};
 use crate::Offered;

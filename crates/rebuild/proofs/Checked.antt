@@ -1,10 +1,9 @@
 -- The check of rows is the model's `rows`: where the marks of seen ids stand for the ids before, a row's number is the model's, and a repeated
 -- location counts only before the first wrong row. Assumes nothing.
 use mathlib.Core.Path.{_≡_, refl, ap, sym, _∙_}
-use mathlib.Core.Logic.{_≢_}
 use mathlib.Core.Bool.{Bool, true, false, not, cond, _&&_, _||_}
 use mathlib.Core.List.{List, [], _∷_}
-use Prim.Native.Nat.{ℕ, zero, suc, _+_, _<_, _≤_}
+use Prim.Native.Nat.{ℕ, suc, _+_, _<_, _≤_}
 use native.Mathlib.Decide.{ℕ-discrete}
 use native.Mathlib.Numerals.{add-one}
 use native.Mathlib.Omega.{arith}
@@ -13,10 +12,10 @@ use lib.ListN.{length, getD, set, take, replicate, length-replicate, length-set,
 use lib.Seq.{getD-set-same, getD-set-other}
 use borrow.Author.Tests.{le-ltb, lt-ltb, ne-eqb, ltb-true}
 use Rattle.refusal.specs.Refusals.{outOfRange, noSuchId, repeatedId, repeatedLocation}
-use Rattle.refusal.proofs.Tests.{and-true, clash}
+use Rattle.refusal.proofs.Tests.{and-true}
 use Rattle.address.specs.Address.{isLocation}
 use Rattle.model.specs.Store.{Store, Row}
-use Rattle.model.specs.Verdict.{Verdict, ok, refuse, test, _⨾_}
+use Rattle.model.specs.Verdict.{Verdict, test, _⨾_}
 use Rattle.model.specs.Tables.{elem, inIds, locationsOf}
 use Rattle.model.specs.Rebuild.{rows, rowsOf}
 use Rattle.model.proofs.Tables.{zeros, elem-head, all}

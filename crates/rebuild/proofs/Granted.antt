@@ -1,6 +1,6 @@
 -- What the tests say of fresh and rebuild: refused with 1, or with a row's number, or granted, and then every table has its length.
 -- Assumes nothing.
-use mathlib.Core.Path.{_≡_, refl, ap, sym, _∙_}
+use mathlib.Core.Path.{_≡_, ap, sym, _∙_}
 use mathlib.Core.Bool.{Bool, true, false, not, cond, _&&_, and-assoc}
 use mathlib.Core.List.{List, []}
 use Prim.Native.Nat.{ℕ, _*_, min}
@@ -11,22 +11,21 @@ use borrow.Author.Tests.{eqb-true, eq-eqb, ne-eqb, not-true}
 use Rattle.refusal.proofs.Tests.{and-true}
 use Rattle.refusal.specs.Refusals.{wrongShape}
 use Rattle.address.specs.Address.{slabs, badSlots}
-use Rattle.model.specs.Store.{Answer, refused, done, fresh, rebuild}
+use Rattle.model.specs.Store.{refused, done, fresh, rebuild}
 use Rattle.model.specs.Step.{answer, answerBy, grant, refusal, unless}
 use Rattle.model.specs.Tables.{capacities, badIds, tablesFit, writeAll, locationsOf}
 use Rattle.model.specs.Rebuild.{rows, rowsOf, heldBy, locatedBy, ownedBy}
-use Rattle.model.specs.Verdict.{Verdict, ok, refuse, test, _⨾_}
-use Rattle.model.specs.Memory.{Memory, read, putWord, usedWords}
+use Rattle.model.specs.Verdict.{ok, refuse, test, _⨾_}
+use Rattle.model.specs.Memory.{Memory, read, putWord, usedWords, memoryOf}
 use Rattle.model.specs.MemoryAfter.{memoryAfter, memoryEffect, memoryRebuilt, useSlots}
 use Rattle.tables.specs.Shapes.{allFit}
 use Rattle.tables.proofs.Lengths.{allFit-read}
 use Rattle.tables.proofs.Laws.{Ranges, capacities-range}
-use Rattle.rebuild.specs.Answers.{memory}
 use Rattle.rebuild.specs.Checks.{checked, verdictOf}
 use Rattle.rebuild.specs.declared.check.Wrong.{Wrong}
 use Rattle.rebuild.proofs.Checked.{verdict-is, rows-length}
 
--- the tables of a memory have their lengths
+-- the tables of a memoryOf have their lengths
 abbrev pub fit : Memory → Bool
 fit m = allFit (m .ids) (m .slots) (length (m .idMarks)) (length (m .locations)) (length (m .slotMarks)) (length (m .owners)) (length (m .batch)) (length (m .tallies))
 
@@ -73,13 +72,13 @@ fresh-refused m e =
 -- every table as long as it was, and zeros
 abbrev zeroed : Memory → Memory
 zeroed m =
-    memory (m .ids) (m .slots) (replicate (length (m .idMarks)) 0) (replicate (length (m .locations)) 0) (replicate (length (m .slotMarks)) 0)
+    memoryOf (m .ids) (m .slots) (replicate (length (m .idMarks)) 0) (replicate (length (m .locations)) 0) (replicate (length (m .slotMarks)) 0)
     (replicate (length (m .owners)) 0) (replicate (length (m .batch)) 0) (replicate (length (m .tallies)) 0)
 
 zeroed-rebuilt : (m : Memory) → fit m ≡ true → zeroed m ≡ memoryRebuilt (m .ids) (m .slots) []
 zeroed-rebuilt m e =
     let l = fit-lengths m e in λ i.
-    memory (m .ids) (m .slots) (replicate (l .id-marks i) 0) (replicate (l .locations i) 0) (replicate (l .slot-marks i) 0) (replicate (l .owners i) 0)
+    memoryOf (m .ids) (m .slots) (replicate (l .id-marks i) 0) (replicate (l .locations i) 0) (replicate (l .slot-marks i) 0) (replicate (l .owners i) 0)
     (replicate (l .batch i) 0)
     ((ap (λ n. replicate n 0) (l .tallies) ∙ sym (set-getD {A = ℕ} (replicate 473 0) 158 0)) i)
 
@@ -141,11 +140,11 @@ module _ (m : Memory) (is ls : List ℕ) where
 
 -- the tables with the rows, as long as they were
 pub written : (m : Memory) (is ls : List ℕ) → Lengths m → length ls ≡ length is
-    → memory (m .ids) (m .slots) (heldBy (rowsOf is ls) (replicate (length (m .idMarks)) 0)) (locatedBy (rowsOf is ls) (replicate (length (m .locations)) 0))
+    → memoryOf (m .ids) (m .slots) (heldBy (rowsOf is ls) (replicate (length (m .idMarks)) 0)) (locatedBy (rowsOf is ls) (replicate (length (m .locations)) 0))
     (writeAll (m .slots) (locationsOf (rowsOf is ls)) 1 (replicate (length (m .slotMarks)) 0)) (ownedBy (m .slots) (rowsOf is ls) (replicate (length (m .owners)) 0))
     (replicate (length (m .batch)) 0) (useSlots (m .slots) (putWord (replicate (length (m .tallies)) 0) usedWords 0 (min 1 (length is))) (locationsOf (rowsOf is ls)))
     ≡ memoryRebuilt (m .ids) (m .slots) (rowsOf is ls)
 written m is ls l e = λ i.
-    memory (m .ids) (m .slots) (heldBy (rowsOf is ls) (replicate (l .id-marks i) 0)) (locatedBy (rowsOf is ls) (replicate (l .locations i) 0))
+    memoryOf (m .ids) (m .slots) (heldBy (rowsOf is ls) (replicate (l .id-marks i) 0)) (locatedBy (rowsOf is ls) (replicate (l .locations i) 0))
     (writeAll (m .slots) (locationsOf (rowsOf is ls)) 1 (replicate (l .slot-marks i) 0)) (ownedBy (m .slots) (rowsOf is ls) (replicate (l .owners i) 0))
     (replicate (l .batch i) 0) (useSlots (m .slots) (putWord (replicate (l .tallies i) 0) usedWords 0 (min 1 (rows-length is ls e i))) (locationsOf (rowsOf is ls)))

@@ -4,7 +4,7 @@
 ghost use mathlib.Core.Path.{_≡_};
 ghost use mathlib.Core.Bool.{true, false};
 ghost use Prim.Native.Nat.{_≤_};
-ghost use lib.ListN.{length, getD, take, replicate};
+ghost use lib.ListN.{length, getD, replicate};
 ghost use Rattle.address.specs.Address.{badSlots, isLocation};
 ghost use Rattle.model.specs.Rebuild.{rowsOf};
 ghost use Rattle.rebuild.specs.Checks.{isAt, wrongIn, firstWrong, repeatsAt, markedBy, repeatIn, repeatsFrom, checked};

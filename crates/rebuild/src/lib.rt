@@ -11,9 +11,9 @@
 ghost use mathlib.Core.Path.{_≡_};
 ghost use Rattle.model.specs.Store.{fresh, rebuild};
 ghost use Rattle.model.specs.Step.{answer};
-ghost use Rattle.model.specs.Memory.{read};
+ghost use Rattle.model.specs.Memory.{read, memoryOf};
 ghost use Rattle.model.specs.MemoryAfter.{memoryAfter};
-ghost use Rattle.rebuild.specs.Answers.{memory, answerOf};
+ghost use Rattle.rebuild.specs.Answers.{answerOf};
 use refusal::Refusal;
 use tables::Capacities;
 
@@ -37,9 +37,9 @@ pub fn fresh(
     tallies: &mut [u64],
 ) -> Rebuilt
     ensures { λ r. ⌜ (answerOf r
-        ≡ answer (read (memory (caps .ids) (caps .slots) (now («id_marks» .entry)) (now (locations .entry)) (now («slot_marks» .entry)) (now (owners .entry)) (now (batch .entry)) (now (tallies .entry)))) fresh)
-        × (memory (caps .ids) (caps .slots) (now («id_marks» .exit)) (now (locations .exit)) (now («slot_marks» .exit)) (now (owners .exit)) (now (batch .exit)) (now (tallies .exit))
-        ≡ memoryAfter (memory (caps .ids) (caps .slots) (now («id_marks» .entry)) (now (locations .entry)) (now («slot_marks» .entry)) (now (owners .entry)) (now (batch .entry)) (now (tallies .entry))) fresh) ⌝ }
+        ≡ answer (read (memoryOf (caps .ids) (caps .slots) (now («id_marks» .entry)) (now (locations .entry)) (now («slot_marks» .entry)) (now (owners .entry)) (now (batch .entry)) (now (tallies .entry)))) fresh)
+        × (memoryOf (caps .ids) (caps .slots) (now («id_marks» .exit)) (now (locations .exit)) (now («slot_marks» .exit)) (now (owners .exit)) (now (batch .exit)) (now (tallies .exit))
+        ≡ memoryAfter (memoryOf (caps .ids) (caps .slots) (now («id_marks» .entry)) (now (locations .entry)) (now («slot_marks» .entry)) (now (owners .entry)) (now (batch .entry)) (now (tallies .entry))) fresh) ⌝ }
 {
     if !tables::all_fit(
         caps,
@@ -69,9 +69,9 @@ pub fn rebuild(
     row_locations: &[u64],
 ) -> Rebuilt
     ensures { λ r. ⌜ (answerOf r
-        ≡ answer (read (memory (caps .ids) (caps .slots) (now («id_marks» .entry)) (now (locations .entry)) (now («slot_marks» .entry)) (now (owners .entry)) (now (batch .entry)) (now (tallies .entry)))) (rebuild (now (ids .entry)) (now («row_locations» .entry))))
-        × (memory (caps .ids) (caps .slots) (now («id_marks» .exit)) (now (locations .exit)) (now («slot_marks» .exit)) (now (owners .exit)) (now (batch .exit)) (now (tallies .exit))
-        ≡ memoryAfter (memory (caps .ids) (caps .slots) (now («id_marks» .entry)) (now (locations .entry)) (now («slot_marks» .entry)) (now (owners .entry)) (now (batch .entry)) (now (tallies .entry))) (rebuild (now (ids .entry)) (now («row_locations» .entry)))) ⌝ }
+        ≡ answer (read (memoryOf (caps .ids) (caps .slots) (now («id_marks» .entry)) (now (locations .entry)) (now («slot_marks» .entry)) (now (owners .entry)) (now (batch .entry)) (now (tallies .entry)))) (rebuild (now (ids .entry)) (now («row_locations» .entry))))
+        × (memoryOf (caps .ids) (caps .slots) (now («id_marks» .exit)) (now (locations .exit)) (now («slot_marks» .exit)) (now (owners .exit)) (now (batch .exit)) (now (tallies .exit))
+        ≡ memoryAfter (memoryOf (caps .ids) (caps .slots) (now («id_marks» .entry)) (now (locations .entry)) (now («slot_marks» .entry)) (now (owners .entry)) (now (batch .entry)) (now (tallies .entry))) (rebuild (now (ids .entry)) (now («row_locations» .entry)))) ⌝ }
 {
     let fit = tables::all_fit(
         caps,

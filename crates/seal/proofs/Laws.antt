@@ -1,16 +1,16 @@
 -- Laws of bytes that end in their own check. Assumes nothing.
 use mathlib.Core.Bool.{true}
-use mathlib.Core.Path.{_≡_, refl, sym, ap, _∙_}
+use mathlib.Core.Path.{_≡_, sym, ap, _∙_}
 use mathlib.Core.List.{List, _++_}
 use Prim.Native.Nat.{ℕ, _+_, _-_, _^_, _≤_, _<_}
 use native.Mathlib.Omega.{arith}
 use lib.Bits.{xor-lt}
-use lib.Dec.{eqb, lit<}
-use lib.ListN.{length, take, drop, length-append, length-drop, take-append-drop}
-use lib.Seq.{take-at, drop-at, take-all}
+use lib.Dec.{lit<}
+use lib.ListN.{length, length-append, length-drop, take-append-drop}
+use lib.Seq.{take-at, drop-at}
 use borrow.Author.Tests.{eq-eqb, eqb-true}
 use Rattle.little_endian.specs.LittleEndian.{word, bytesOf}
-use Rattle.little_endian.proofs.Laws.{Bytes, append-bytes, take-bytes, drop-bytes, length-bytesOf, bytesOf-bytes, word-bytesOf, bytesOf-word}
+use Rattle.little_endian.proofs.Laws.{Bytes, append-bytes, drop-bytes, length-bytesOf, bytesOf-bytes, word-bytesOf, bytesOf-word}
 use Rattle.sizes.specs.Sizes.{checkWidth}
 use Rattle.crc32.proofs.Laws.{crc32-lt}
 use Rattle.seal.specs.Seal.{checkOf, signed, bodyOf, tailOf, isSigned, resigned}

@@ -1,21 +1,20 @@
 -- Laws of the settings cookie. Assumes nothing.
 use mathlib.Core.Bool.{true, false}
-use mathlib.Core.Path.{_≡_, refl, sym, ap, _∙_}
+use mathlib.Core.Path.{_≡_, refl, ap, _∙_}
 use mathlib.Core.List.{List, [], _++_, append-assoc}
 use Prim.Native.Nat.{ℕ, _+_, _-_, _^_, _<_}
 use native.Mathlib.Omega.{arith}
-use lib.Dec.{eqb, ltb, lit<}
+use lib.Dec.{ltb, lit<}
 use lib.ListN.{length, take, drop, replicate, length-append, length-drop}
 use lib.Seq.{take-at}
-use borrow.Author.Tests.{eq-eqb, le-ltb}
+use borrow.Author.Tests.{le-ltb}
 use Rattle.parts.proofs.Parts.{length-part, drop-part}
-use Rattle.little_endian.specs.LittleEndian.{word, bytesOf, getAt, putAt}
-use Rattle.little_endian.proofs.Laws.{Bytes, append-bytes, zero-bytes, bytesOf-bytes, bytesOf-zero, length-bytesOf, word-bytesOf, putAt-next, getAt-middle}
+use Rattle.little_endian.specs.LittleEndian.{bytesOf, getAt, putAt}
+use Rattle.little_endian.proofs.Laws.{append-bytes, zero-bytes, bytesOf-bytes, bytesOf-zero, length-bytesOf, word-bytesOf, putAt-next, getAt-middle}
 use Rattle.sizes.specs.Sizes.{checkWidth}
 use Rattle.seal.specs.Seal.{checkOf, signed, isSigned, resigned}
 use Rattle.seal.proofs.Laws.{length-signed, isSigned-signed, resigned-body}
 use Rattle.settings.specs.Settings.{cookieLength, cookieOf, settingsOf}
-use Rattle.settings.specs.declared.PersistentSettings.{PersistentSettings}
 use Rattle.settings.specs.declared.PersistentSettings.the-variants as P
 
 -- ---- writing: the version, the fanout, the padding, the check

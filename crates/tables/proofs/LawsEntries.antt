@@ -1,15 +1,15 @@
 -- One id and one slot: what the tables say is what the model says of the store that they stand for. Assumes nothing.
-use mathlib.Core.Bool.{Bool, true, false, not, cond, _&&_, _||_}
+use mathlib.Core.Bool.{false, not, _&&_}
 use mathlib.Core.Logic.{⊎-elim}
 use mathlib.Core.Path.{_≡_, refl, sym, ap, _∙_}
 use mathlib.Core.List.{List, [], _∷_}
 use Prim.Native.Nat.{ℕ, zero, suc, _+_, _-_, _*_, _/_, _%_, _≤_, _<_, pred}
 use native.Mathlib.Nat.{mul-le-mul}
 use native.Mathlib.Omega.{arith}
-use lib.Dec.{ltb, eqb, eqb·suc-zero}
-use lib.ListN.{length, getD, take, drop, length-drop, drop-of-length-le}
-use lib.Seq.{take-all, take-nil}
-use borrow.Author.Tests.{lt-ltb, le-ltb, ltb-true}
+use lib.Dec.{ltb, eqb·suc-zero}
+use lib.ListN.{length, getD, take, drop, drop-of-length-le}
+use lib.Seq.{take-nil}
+use borrow.Author.Tests.{lt-ltb}
 use types.Run.{OneOf}
 use denote.Enum.Declared.{tagOf}
 use Rattle.refusal.specs.declared.Refusal.{Refusal}
@@ -19,10 +19,9 @@ use Rattle.address.specs.declared.Unpacked.{Unpacked}
 use Rattle.address.specs.declared.Unpacked.the-variants as U
 use Rattle.address.proofs.Unpacked.{the-type}
 use Rattle.address.proofs.Laws.{slots-range}
-use Rattle.id_allocator.specs.Marks.{isHeld}
-use Rattle.model.specs.Tables.{at, part, heldId, badAt}
+use Rattle.model.specs.Tables.{part, heldId, badAt}
 use Rattle.model.specs.Memory.{Memory, countedBy, countedSlabs, read}
-use Rattle.model.proofs.Tables.{Location, isLocation-says, at-lt, part-at}
+use Rattle.model.proofs.Tables.{isLocation-says, part-at}
 use Rattle.model.proofs.Slabs.{part-countedSlabs}
 use Rattle.tables.specs.Entries.{heldIn, slabPart, badBy, badIn}
 

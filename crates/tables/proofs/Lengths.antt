@@ -1,17 +1,14 @@
 -- What lengths say of the store that the tables stand for. Assumes nothing.
-use mathlib.Core.Bool.{Bool, true, false, not, _&&_, and-assoc}
-use mathlib.Core.Path.{_≡_, refl, sym, ap, _∙_}
-use mathlib.Core.List.{List}
-use Prim.Native.Nat.{ℕ, _+_, _-_, _*_, _≤_}
-use native.Mathlib.Omega.{arith}
+use mathlib.Core.Bool.{Bool, true, false, _&&_}
+use mathlib.Core.Path.{_≡_, refl, ap}
+use Prim.Native.Nat.{ℕ, _-_, _*_}
 use lib.Dec.{eqb}
-use lib.ListN.{length, take, drop, length-take, length-drop}
+use lib.ListN.{length, length-take, length-drop}
 use borrow.Author.Tests.{eq-eqb, eqb-true}
-use Rattle.refusal.proofs.Tests.{and-true, both-ways}
+use Rattle.refusal.proofs.Tests.{both-ways}
 use Rattle.address.specs.Address.{slabs}
-use Rattle.id_allocator.specs.Counted.{counted}
-use Rattle.model.specs.Tables.{capacities, part, idMarksFit, locationsFit, slotMarksFit, ownersFit, batchFits, talliesFit, tablesFit}
-use Rattle.model.specs.Memory.{Memory, countedSlabs, read}
+use Rattle.model.specs.Tables.{capacities, idMarksFit, locationsFit, slotMarksFit, ownersFit, batchFits, talliesFit, tablesFit}
+use Rattle.model.specs.Memory.{Memory, read}
 use Rattle.id_allocator.proofs.LawsCounted.{counted-length}
 use Rattle.model.proofs.Words.{batchFits-length, talliesFit-length}
 use Rattle.model.proofs.Slabs.{length-countedSlabs}

@@ -1,6 +1,6 @@
 // Refusal 1: whether what a call is lent has its lengths. One function for each set of tables that calls are lent.
 ghost use mathlib.Core.Path.{_≡_};
-ghost use mathlib.Core.Bool.{Bool, _&&_};
+ghost use mathlib.Core.Bool.{_&&_};
 ghost use lib.Dec.{eqb};
 ghost use Rattle.tables.specs.Shapes.{allFit, newIdFits, releaseFits, slabFits, lookupFits, talliesFits, defragFits};
 use crate::BATCH_WORDS;

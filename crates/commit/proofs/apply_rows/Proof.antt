@@ -5,10 +5,9 @@ use Prim.Native.Nat.{_+_, _-_, _≤_}
 use native.Mathlib.Nat.{sub-zero}
 use native.Mathlib.Omega.{arith}
 use lib.ListN.{length}
-use Rattle.model.specs.Memory.{Memory}
+use Rattle.model.specs.Memory.{Memory, memoryOf}
 use Rattle.model.specs.MemoryAfter.{commitAll}
 use Rattle.kept.specs.Kept.{rowsFrom}
-use Rattle.commit.specs.Commit.{commitMemory}
 use Rattle.commit.proofs.LawsApply.{commit-next, commit-none}
 use Rattle.commit.proofs.apply_rows.Statement.{statement}
 use Rattle.commit.proofs.apply_rows.Tie as tie
@@ -21,8 +20,8 @@ Inv-loop caps id-marks₀ locations₀ slot-marks₀ owners₀ batch tallies₀ 
     × (length slot-marks ≡ length slot-marks₀)
     × (length owners ≡ length owners₀)
     × (length tallies ≡ length tallies₀)
-    × (commitAll (commitMemory (caps .ids) (caps .slots) id-marks locations slot-marks owners batch tallies) (rowsFrom batch (n - i) i)
-    ≡ commitAll (commitMemory (caps .ids) (caps .slots) id-marks₀ locations₀ slot-marks₀ owners₀ batch tallies₀) (rowsFrom batch n 0))
+    × (commitAll (memoryOf (caps .ids) (caps .slots) id-marks locations slot-marks owners batch tallies) (rowsFrom batch (n - i) i)
+    ≡ commitAll (memoryOf (caps .ids) (caps .slots) id-marks₀ locations₀ slot-marks₀ owners₀ batch tallies₀) (rowsFrom batch n 0))
 
 abbrev μ-loop : tie.MeasureT-loop
 μ-loop caps id-marks₀ locations₀ slot-marks₀ owners₀ batch tallies₀ n i₀ id-marks locations slot-marks owners tallies i = n - i
@@ -43,7 +42,7 @@ loop-again : tie.Need-loop-again Inv-loop μ-loop
 loop-again c =
     let a = c .before .before .before .before .before .before .before .before .before .before .before .before .before .before .before .before .before .before .before .before .before .before .before .before .args in
     let l = c .before .before .before .before .before .before .before .before .before .before .before .before .before .before .before .before .before .loop in
-    let m : Memory = commitMemory (a .caps .ids) (a .caps .slots) (l .id-marks) (l .locations) (l .slot-marks) (l .owners) (a .batch .now) (l .tallies) in (
+    let m : Memory = memoryOf (a .caps .ids) (a .caps .slots) (l .id-marks) (l .locations) (l .slot-marks) (l .owners) (a .batch .now) (l .tallies) in (
       omega arith,
       omega arith,
       omega arith,

@@ -3,11 +3,10 @@
 use mathlib.Core.Path.{sym, ap, _∙_}
 use lib.ListN.{set}
 use Rattle.model.specs.Store as S
-use Rattle.model.specs.Memory.{Memory}
+use Rattle.model.specs.Memory.{Memory, memoryOf}
 use Rattle.model.specs.MemoryAfter.{withKept}
 use Rattle.kept.proofs.Laws.{rowsAs-count, rowsAs-refused}
 use Rattle.kept.proofs.Checked.{refused-answer, refused-after}
-use Rattle.commit.specs.Commit.{commitMemory}
 use Rattle.commit.proofs.Laws.{fits-says, commit-fits, commit-done, commit-after}
 use borrow.Author.Needs.{needs}
 use Rattle.commit.proofs.commit.Statement.{statement}
@@ -25,7 +24,7 @@ enum-known-n c = search needs
 apply-rows-requires : tie.Need-apply-rows-requires
 apply-rows-requires c κs =
     let a = c .before .before .before .before .before .before .before .before .before .before .before .before .before .before .before .before .before .before .before .before .before .before .args in
-    let m = commitMemory (a .caps .ids) (a .caps .slots) (a .id-marks .now) (a .locations .now) (a .slot-marks .now) (a .owners .now) (a .batch .now) (a .tallies .now) in
+    let m = memoryOf (a .caps .ids) (a .caps .slots) (a .id-marks .now) (a .locations .now) (a .slot-marks .now) (a .owners .now) (a .batch .now) (a .tallies .now) in
     let z = rowsAs-count _ _ _ (sym (c .before .before .before .before .before .before .before .before .before .check .ensures) ∙ c .before .before .before .before .before .before .before .n .given .1) in
     let l = fits-says m (commit-fits m (z .0)) in
     (l .capacity, l .marks-long)
@@ -54,7 +53,7 @@ same-length-6 c = search needs
 returns : tie.Need-returns
 returns c =
     let a = c .before .before .before .before .before .before .before .before .before .before .before .before .before .before .before .before .args in
-    let m = commitMemory (a .caps .ids) (a .caps .slots) (a .id-marks .now) (a .locations .now) (a .slot-marks .now) (a .owners .now) (a .batch .now) (a .tallies .now) in
+    let m = memoryOf (a .caps .ids) (a .caps .slots) (a .id-marks .now) (a .locations .now) (a .slot-marks .now) (a .owners .now) (a .batch .now) (a .tallies .now) in
     let e = rowsAs-refused _ _ _ (sym (c .before .before .before .check .ensures) ∙ c .before .refusal .given .1) in
     (sym (refused-answer m S.commit _ _ e), sym (refused-after m S.commit _ _ e))
 
@@ -79,7 +78,7 @@ same-length-12 c = search needs
 returns-2 : tie.Need-returns-2
 returns-2 c =
     let a = c .before .before .before .before .before .before .before .before .before .before .before .before .before .before .before .before .before .before .before .before .before .before .before .before .before .before .before .before .before .before .before .before .before .before .before .before .before .args in
-    let m = commitMemory (a .caps .ids) (a .caps .slots) (a .id-marks .now) (a .locations .now) (a .slot-marks .now) (a .owners .now) (a .batch .now) (a .tallies .now) in
+    let m = memoryOf (a .caps .ids) (a .caps .slots) (a .id-marks .now) (a .locations .now) (a .slot-marks .now) (a .owners .now) (a .batch .now) (a .tallies .now) in
     let z = rowsAs-count _ _ _ (sym (c .before .before .before .before .before .before .before .before .before .before .before .before .before .before .before .before .before .before .before .before .before .before .before .before .check .ensures) ∙ c .before .before .before .before .before .before .before .before .before .before .before .before .before .before .before .before .before .before .before .before .before .before .n .given .1) in (
       sym (commit-done m (z .0)),
       rw (c .before .before .put .ensures) (ap (λ (x : Memory). withKept x (set (a .batch .now) 0 0)) (c .before .before .before .before .before .before .before .before .before .before .before .before .before .before .apply-rows .ensures) ∙ sym (commit-after m (z .0) _ (z .1))),

@@ -1,8 +1,6 @@
 -- `defrag::fits` meets its contract: one row fewer than ids is asked of the lent lists. Assumes nothing.
-use mathlib.Core.Path.{sym, _∙_, _≡_, ap}
-use mathlib.Core.Bool.{Bool, true, _&&_, and-assoc}
+use mathlib.Core.Path.{sym, _∙_}
 use borrow.Author.Tests.{not-true, not-false}
-use native.Mathlib.Omega.{arith}
 use Rattle.defrag.proofs.Granted.{fits-range, less-one}
 use borrow.Author.Needs.{needs}
 use Rattle.defrag.proofs.fits.Statement.{statement}

@@ -1,7 +1,4 @@
-use mathlib.Core.Path.{_≡_}
-use Prim.Native.Nat.{_≤_}
 use native.Mathlib.Omega.{arith}
-use lib.ListN.{length}
 use lib.Seq.{take-length}
 use Rattle.sizes.proofs.Laws.{isSlabSize-least, room-frame}
 use Rattle.frame.proofs.Laws.{laid}

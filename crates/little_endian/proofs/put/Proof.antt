@@ -1,6 +1,6 @@
 use mathlib.Core.Path.{refl, ap}
 use Prim.Native.Nat.{ℕ, _+_, _%_}
-use lib.ListN.{set, length-set}
+use lib.ListN.{length-set}
 -- `little_endian::put` meets its contract. The loop's invariant: the bytes written, with the bytes of what is left of the number, are the
 -- bytes of the number. The measure is what is left of the slice. Assumes nothing.
 use mathlib.Core.Path.{_≡_, sym, _∙_}

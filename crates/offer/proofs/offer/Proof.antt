@@ -6,7 +6,7 @@ use native.Mathlib.Omega.{arith}
 use lib.ListN.{length, take}
 use borrow.Author.Tests.{not-true, not-false}
 use borrow.Author.Needs.{needs}
-use Rattle.offer.specs.Outcome.{memoryOf}
+use Rattle.model.specs.Memory.{memoryOf}
 use Rattle.offer.specs.Verdicts.{verdictOf}
 use Rattle.offer.proofs.LawsOffer.{leaves-as, leaves-verdict, leaves-done, refused-shape, refused-open, refused-many, rest-told, kinds-told, kinds-long}
 use Rattle.offer.proofs.offer.Statement.{statement}

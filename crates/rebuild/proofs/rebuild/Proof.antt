@@ -6,7 +6,7 @@ use lib.ListN.{length}
 use borrow.Author.Tests.{not-true, not-false}
 use denote.Ref.{now}
 use Rattle.model.specs.Store.{refused}
-use Rattle.rebuild.specs.Answers.{memory}
+use Rattle.model.specs.Memory.{memoryOf}
 use Rattle.rebuild.proofs.Granted.{fits-rows, rebuild-wrong, rebuild-refused, rebuild-granted, written}
 use borrow.Author.Needs.{needs}
 use Rattle.rebuild.proofs.rebuild.Statement.{statement}
@@ -26,7 +26,7 @@ returns c =
     let a = c .before .before .before .before .before .before .before .before .before .before .before .before .args in
     let is = now (a .ids) in
     let ls = now (a .row-locations) in
-    let m = memory (a .caps .ids) (a .caps .slots) (now (a .id-marks)) (now (a .locations)) (now (a .slot-marks)) (now (a .owners)) (now (a .batch)) (now (a .tallies)) in
+    let m = memoryOf (a .caps .ids) (a .caps .slots) (now (a .id-marks)) (now (a .locations)) (now (a .slot-marks)) (now (a .owners)) (now (a .batch)) (now (a .tallies)) in
     let fit = sym (c .before .before .both .ensures ∙ ap (λ b. b && eqb (length ls) (length is)) (c .before .before .before .all-fit .ensures)) ∙ not-true _ (c .before .if1 .taken) in
     let g = rebuild-wrong m is ls fit in
     (ap (λ r. refused (r .number) (r .index)) (c .of .ensures) ∙ g .0, g .1)
@@ -36,7 +36,7 @@ first-refused-requires c κs =
     let a = c .before .before .before .before .before .before .before .before .before .before .before .args in
     let is = now (a .ids) in
     let ls = now (a .row-locations) in
-    let m = memory (a .caps .ids) (a .caps .slots) (now (a .id-marks)) (now (a .locations)) (now (a .slot-marks)) (now (a .owners)) (now (a .batch)) (now (a .tallies)) in
+    let m = memoryOf (a .caps .ids) (a .caps .slots) (now (a .id-marks)) (now (a .locations)) (now (a .slot-marks)) (now (a .owners)) (now (a .batch)) (now (a .tallies)) in
     let fit = sym (c .before .both .ensures ∙ ap (λ b. b && eqb (length ls) (length is)) (c .before .before .all-fit .ensures)) ∙ not-false _ (c .if1 .left) in
     let r = fits-rows m is ls fit in
     (r .good, r .range .slots-to, r .long)
@@ -49,7 +49,7 @@ returns-2 c =
     let a = c .before .before .before .before .before .before .before .before .before .before .before .before .before .before .before .args in
     let is = now (a .ids) in
     let ls = now (a .row-locations) in
-    let m = memory (a .caps .ids) (a .caps .slots) (now (a .id-marks)) (now (a .locations)) (now (a .slot-marks)) (now (a .owners)) (now (a .batch)) (now (a .tallies)) in
+    let m = memoryOf (a .caps .ids) (a .caps .slots) (now (a .id-marks)) (now (a .locations)) (now (a .slot-marks)) (now (a .owners)) (now (a .batch)) (now (a .tallies)) in
     let fit = sym (c .before .before .before .before .before .both .ensures ∙ ap (λ b. b && eqb (length ls) (length is)) (c .before .before .before .before .before .before .all-fit .ensures)) ∙ not-false _ (c .before .before .before .before .if1 .left) in
     let g = rebuild-refused m is ls fit _ (c .before .before .before .first-refused .ensures) (c .before .if2 .taken) in
     (ap (λ r. refused (r .number) (r .index)) (c .at .ensures) ∙ g .0, g .1)
@@ -59,7 +59,7 @@ write-requires c κs =
     let a = c .before .before .before .before .before .before .before .before .before .before .before .before .before .before .before .before .before .before .before .before .args in
     let is = now (a .ids) in
     let ls = now (a .row-locations) in
-    let m = memory (a .caps .ids) (a .caps .slots) (now (a .id-marks)) (now (a .locations)) (now (a .slot-marks)) (now (a .owners)) (now (a .batch)) (now (a .tallies)) in
+    let m = memoryOf (a .caps .ids) (a .caps .slots) (now (a .id-marks)) (now (a .locations)) (now (a .slot-marks)) (now (a .owners)) (now (a .batch)) (now (a .tallies)) in
     let fit = sym (c .before .before .before .before .before .before .before .before .before .before .both .ensures ∙ ap (λ b. b && eqb (length ls) (length is)) (c .before .before .before .before .before .before .before .before .before .before .before .all-fit .ensures)) ∙ not-false _ (c .before .before .before .before .before .before .before .before .before .if1 .left) in
     let r = fits-rows m is ls fit in
     (r .good, r .range .slots-to, r .long)
@@ -87,12 +87,12 @@ returns-3 c =
     let a = c .before .before .before .before .before .before .before .before .before .before .before .before .before .before .before .before .before .before .before .before .before .before .before .before .before .before .before .before .before .before .before .before .before .args in
     let is = now (a .ids) in
     let ls = now (a .row-locations) in
-    let m = memory (a .caps .ids) (a .caps .slots) (now (a .id-marks)) (now (a .locations)) (now (a .slot-marks)) (now (a .owners)) (now (a .batch)) (now (a .tallies)) in
+    let m = memoryOf (a .caps .ids) (a .caps .slots) (now (a .id-marks)) (now (a .locations)) (now (a .slot-marks)) (now (a .owners)) (now (a .batch)) (now (a .tallies)) in
     let fit = sym (c .before .before .before .before .before .before .before .before .before .before .before .before .before .before .before .before .before .before .before .before .before .before .before .both .ensures ∙ ap (λ b. b && eqb (length ls) (length is)) (c .before .before .before .before .before .before .before .before .before .before .before .before .before .before .before .before .before .before .before .before .before .before .before .before .all-fit .ensures)) ∙ not-false _ (c .before .before .before .before .before .before .before .before .before .before .before .before .before .before .before .before .before .before .before .before .before .before .if1 .left) in
     let r = fits-rows m is ls fit in
     let g = rebuild-granted m is ls fit _ (c .before .before .before .before .before .before .before .before .before .before .before .before .before .before .before .before .before .before .before .before .before .first-refused .ensures) (c .before .before .before .before .before .before .before .before .before .before .before .before .before .before .before .before .before .before .before .if2 .left) in
     let e = c .before .before .before .before .before .before .before .before .before .before .before .before .write .ensures in
-    (g .0, (λ i. memory (a .caps .ids) (a .caps .slots) (e .0 i) (e .1 i) (e .2 i) (e .3 i) (e .4 i) (e .5 i)) ∙ written m is ls (r .shape) (r .long) ∙ g .1)
+    (g .0, (λ i. memoryOf (a .caps .ids) (a .caps .slots) (e .0 i) (e .1 i) (e .2 i) (e .3 i) (e .4 i) (e .5 i)) ∙ written m is ls (r .shape) (r .long) ∙ g .1)
 
 pub rebuild-spec : {M : Type 1} → statement M
 rebuild-spec =

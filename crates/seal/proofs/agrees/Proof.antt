@@ -4,7 +4,6 @@ use Prim.Native.Nat.{ℕ, _-_, _≤_}
 use native.Mathlib.Omega.{arith}
 use lib.ListN.{length, take, drop, length-drop}
 use lib.Seq.{length-take-le, take-all}
-use lib.Dec.{eqb}
 use Rattle.little_endian.specs.LittleEndian.{word}
 use Rattle.seal.specs.Seal.{isSigned, checkOf, bodyOf, tailOf}
 use Rattle.parts.proofs.Parts.{rest-part}

@@ -1,11 +1,10 @@
 use mathlib.Core.List.{List, _++_}
 use Rattle.little_endian.specs.LittleEndian.{bytesOf}
 use mathlib.Core.Path.{_≡_, sym, ap, _∙_}
-use Prim.Native.Nat.{ℕ, _-_, _≤_}
-use native.Mathlib.Omega.{arith}
+use Prim.Native.Nat.{ℕ, _-_}
 use lib.ListN.{length, take, drop}
 use lib.Seq.{length-take-le}
-use Rattle.seal.specs.Seal.{resigned, checkOf, bodyOf, tailOf}
+use Rattle.seal.specs.Seal.{resigned, checkOf, bodyOf}
 use Rattle.parts.proofs.Parts.{rest-part, put-rest}
 use borrow.Author.Needs.{needs}
 use Rattle.seal.proofs.write.Statement.{statement}

@@ -1,6 +1,6 @@
 -- `address::SlabAddress::from_slab_slot` meets its contract: the tests, in the definition's order. Assumes nothing.
 use mathlib.Core.Logic.{⊎-elim}
-use borrow.Author.Tests.{le-leb, lt-leb, lt-ltb, le-ltb}
+use borrow.Author.Tests.{le-leb, lt-leb}
 use Rattle.address.specs.Address.{madeOf}
 use Rattle.address.proofs.SlabAddress.from_slab_slot.Statement.{statement}
 use Rattle.address.proofs.SlabAddress.from_slab_slot.Tie as tie

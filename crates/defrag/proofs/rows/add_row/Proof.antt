@@ -1,12 +1,9 @@
 -- `defrag::rows::add_row` meets its contract: no row, or one. Assumes nothing.
-use mathlib.Core.Path.{_≡_, refl, ap, sym, _∙_}
+use mathlib.Core.Path.{_≡_, refl, sym, _∙_}
 use Prim.Native.Nat.{_+_}
 use borrow.Author.Tests.{not-true, not-false}
 use native.Mathlib.Omega.{arith}
 use denote.Ref.{now}
-use lib.ListN.{length, set}
-use lib.Seq.{sets}
-use Rattle.model.specs.Tables.{idsOf, locationsOf}
 use Rattle.defrag.proofs.Written.{rowOf-none, rowOf-some}
 use borrow.Author.Needs.{needs}
 use Rattle.defrag.proofs.rows.add_row.Statement.{statement}

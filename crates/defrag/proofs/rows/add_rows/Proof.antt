@@ -2,7 +2,7 @@
 use lib.ListN.{getD}
 use lib.Seq.{length-sets}
 use Prim.Native.Nat.{_+_, _≤_, _-_}
-use mathlib.Core.Path.{_≡_, ap, sym, _∙_}
+use mathlib.Core.Path.{_≡_, ap, _∙_}
 use lib.ListN.{length, drop}
 use lib.Seq.{sets}
 use native.Mathlib.Omega.{arith}

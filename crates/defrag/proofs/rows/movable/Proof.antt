@@ -1,6 +1,5 @@
 -- `defrag::rows::movable` meets its contract, a test at a time. Assumes nothing.
 use lib.ListN.{length}
-use Prim.Native.Nat.{_<_, _≤_}
 use denote.Ref.{now}
 use borrow.Author.Tests.{le-ltb, lt-ltb}
 use native.Mathlib.Omega.{arith}

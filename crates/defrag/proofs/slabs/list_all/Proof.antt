@@ -1,6 +1,6 @@
 -- `defrag::slabs::list_all` meets its contract. The loop's invariant: the rows of the slabs left, written from the present row on, complete what is to be written. The measure is how many slabs are left. Assumes nothing.
 use Prim.Native.Nat.{_+_, _*_, _≤_, _-_}
-use mathlib.Core.Path.{_≡_, ap, sym, _∙_}
+use mathlib.Core.Path.{_≡_, ap, _∙_}
 use lib.ListN.{length}
 use lib.Seq.{sets, length-sets}
 use native.Mathlib.Omega.{arith}

@@ -1,7 +1,7 @@
 use Rattle.frame.specs.declared.Verdict.{Verdict}
-use mathlib.Core.Path.{_≡_, sym, ap, _∙_}
+use mathlib.Core.Path.{sym, ap, _∙_}
 use lib.Seq.{length-take-le}
-use Rattle.frame.specs.Frame.{part, verdictOf}
+use Rattle.frame.specs.Frame.{part}
 use Rattle.frame.proofs.Laws.{verdict-within}
 use borrow.Author.Needs.{needs}
 use Rattle.frame.proofs.Slab.read.Statement.{statement}

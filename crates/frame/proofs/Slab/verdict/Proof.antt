@@ -3,7 +3,7 @@ use lib.Dec.{ltb}
 use lib.ListN.{length}
 use Rattle.sizes.specs.Sizes.{room}
 use borrow.Author.Tests.{lt-ltb, le-ltb, not-true, not-false}
-use mathlib.Core.Path.{_≡_, sym, ap, _∙_}
+use mathlib.Core.Path.{_≡_, sym, _∙_}
 use native.Mathlib.Omega.{arith}
 use Rattle.sizes.proofs.Laws.{isSlabSize-least}
 use Rattle.frame.specs.Frame.{storedLength, verdictOf}

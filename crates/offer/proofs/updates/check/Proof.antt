@@ -12,7 +12,7 @@ use Rattle.refusal.proofs.Tests.{clash}
 use Rattle.model.specs.Tables.{elem}
 use Rattle.model.specs.Verdict.{refuse}
 use Rattle.offer.specs.Kinds.{before, checkIn}
-use Rattle.offer.specs.Outcome.{memoryOf}
+use Rattle.model.specs.Memory.{memoryOf}
 use Rattle.offer.proofs.LawsUpdates.{check-stop, check-on, check-end, check-short, seen-on, far}
 use Rattle.offer.proofs.updates.check.Statement.{statement}
 use Rattle.offer.proofs.updates.check.Tie as tie

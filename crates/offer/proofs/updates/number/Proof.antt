@@ -3,7 +3,7 @@ use mathlib.Core.List.{[]}
 use mathlib.Core.Path.{sym, _∙_}
 use borrow.Author.Tests.{not-true, not-false}
 use borrow.Author.Needs.{needs}
-use Rattle.offer.specs.Outcome.{memoryOf}
+use Rattle.model.specs.Memory.{memoryOf}
 use Rattle.offer.proofs.LawsUpdates.{row-not-held, row-repeated, row-large, row-bad, row-fine, bad-told}
 use Rattle.offer.proofs.updates.number.Statement.{statement}
 use Rattle.offer.proofs.updates.number.Tie as tie

@@ -1,11 +1,11 @@
 -- `rebuild::check::first_in` meets its contract. The loop's invariant: the first repeat from the present location on, by the present marks, is the first of all. The measure is how many locations are left. Assumes nothing.
 use Prim.Native.Nat.{_+_, _≤_, _-_}
 use mathlib.Core.Path.{_≡_, ap, sym, _∙_}
-use lib.ListN.{length, getD, drop, replicate, length-replicate}
+use lib.ListN.{length, drop, length-replicate}
 use native.Mathlib.Omega.{arith}
 use denote.Ref.{now}
 use borrow.Author.Needs.{needs}
-use Rattle.rebuild.specs.Checks.{repeatIn, markedBy}
+use Rattle.rebuild.specs.Checks.{repeatIn}
 use Rattle.rebuild.proofs.Turns.{length-markedBy, repeatIn-here, repeatIn-next, repeatIn-end}
 use Rattle.rebuild.proofs.check.first_in.Statement.{statement}
 use Rattle.rebuild.proofs.check.first_in.Tie as tie

@@ -2,7 +2,6 @@
 use mathlib.Core.Path.{sym}
 use denote.Ref.{now}
 use lib.Seq.{length-take-le}
-use native.Mathlib.Omega.{arith}
 use Rattle.rebuild.proofs.Checked.{first-le, checked-repeat, checked-first}
 use borrow.Author.Needs.{needs}
 use Rattle.rebuild.proofs.check.first_refused.Statement.{statement}

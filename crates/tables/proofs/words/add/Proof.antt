@@ -1,4 +1,3 @@
-use mathlib.Core.Path.{_≡_, sym, ap, _∙_}
 use Rattle.tables.proofs.Laws.{bump-nonzero}
 use borrow.Author.Needs.{needs}
 use Rattle.tables.proofs.words.add.Statement.{statement}
