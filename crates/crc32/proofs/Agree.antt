@@ -11,7 +11,7 @@ use lib.Arith.{lt-one}
 use lib.Pow.{pow-pos, split, shr-lt}
 use lib.Bits.{bitXor, xor-shifted, xor-block, xor-shr, xor-mod}
 use Rattle.crc32.specs.Crc32.{step, steps}
-use Rattle.crc32.specs.Fold.{up, over, fifth, one, two, four}
+use Rattle.crc32.specs.Fold.{up, over, fifth}
 use Rattle.crc32.proofs.Xor.{xor-swap}
 use Rattle.crc32.proofs.Linear.{step-xor, steps-xor, step-shift}
 
@@ -53,31 +53,13 @@ above {f} {g} l m = record { law = λ a b. ap₂ over (l .law a b) (m .law a b) 
 pub lin-steps : (n : ℕ) → Lin (steps n)
 lin-steps n = record { law = steps-xor n }
 
--- the maps of the code
+-- the map of the code
 pub lin-fifth : Lin fifth
 unfolding fifth
 lin-fifth =
     let u = both id (lup 1 id) in
     let v = both id (lup 2 id) in
     both (both (both (both (lup 1 u) (lup 3 u)) (lup 7 id)) (lup 17 (both v (lup 4 v)))) (lup 26 (both u (lup 4 u)))
-
-pub lin-one : Lin one
-unfolding one
-lin-one =
-    let u = both id (lup 1 id) in
-    let t = both id (lup 6 id) in
-    both (both (both (both (both (both t (lup 16 t)) (lup 9 u)) (lup 20 u)) (lup 24 (both u (lup 3 u)))) (lup 30 u)) (lup 32 id)
-
-pub lin-two : Lin two
-unfolding two
-lin-two =
-    let u = both id (lup 2 id) in
-    let t = both id (lup 12 id) in
-    both (both (both (both (both t (lup 32 t)) (lup 18 u)) (lup 40 u)) (lup 48 (both u (lup 6 u)))) (lup 60 u)
-
-pub lin-four : Lin four
-unfolding four
-lin-four = let t = both id (lup 48 id) in both (both (both t (lup 24 t)) (lup 36 t)) (lup 40 t)
 
 -- ---- the test
 abbrev pub also : Bool → Bool → Bool

@@ -1,13 +1,14 @@
--- A number that is none of those below n is at least n: what a `match` on 0, .., n - 1 leaves for its `_`.
+-- A number from m on that is none of the n from there is at least m + n: what a `match` on m, .., m + n - 1 leaves for its `_`.
 -- Assumes nothing.
 use mathlib.Core.Path.{_≡_, sym}
-use Prim.Native.Nat.{ℕ, zero, suc, _≤_, zero-le}
+use Prim.Native.Nat.{ℕ, zero, suc, _+_, _≤_}
+use native.Mathlib.Omega.{arith}
 use lib.Arith.{lt-of-le-ne}
 
-abbrev pub Away : ℕ → ℕ → Type 0
-Away zero b = Unit
-Away (suc n) b = Away n b × (b ≡ n → ⊥)
+abbrev pub Away : ℕ → ℕ → ℕ → Type 0
+Away m zero b = Unit
+Away m (suc n) b = Away m n b × (b ≡ m + n → ⊥)
 
-pub away : (n b : ℕ) → Away n b → n ≤ b
-away zero b h = zero-le
-away (suc n) b h = lt-of-le-ne (away n b (h .0)) (λ e. h .1 (sym e))
+pub away : (m n b : ℕ) → m ≤ b → Away m n b → m + n ≤ b
+away m zero b l h = omega arith
+away m (suc n) b l h = omega (arith, lt-of-le-ne (away m n b l (h .0)) (λ e. h .1 (sym e)))

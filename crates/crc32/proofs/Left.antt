@@ -14,7 +14,7 @@ use Rattle.little_endian.specs.LittleEndian.{word}
 use Rattle.little_endian.proofs.Laws.{Bytes, drop-bytes, word-cons}
 use Rattle.crc32.specs.Crc32.{steps, crcOver}
 use Rattle.crc32.specs.Fold.{up, over, num, Turn, left}
-use Rattle.crc32.proofs.Linear.{over-word, steps-add, steps-shift, steps-zero}
+use Rattle.crc32.proofs.Linear.{over-word, read-in, steps-add, steps-shift, steps-zero}
 use Rattle.crc32.proofs.Bytes.{word-head}
 use Rattle.crc32.proofs.Agree.{shifted-xor}
 
@@ -22,6 +22,17 @@ use Rattle.crc32.proofs.Agree.{shifted-xor}
 pub crc-first : (s : List ℕ) (i : ℕ) → i < length s → (c : ℕ) → crcOver c (drop i s) ≡ crcOver (steps 8 (bitXor c (getD s i 0))) (drop (i + 1) s)
 unfolding crcOver
 crc-first s i h c = rw (add-one, drop-cons s i 0)
+
+-- four bytes, and the register after them
+pub crc-four : (s : List ℕ) → Bytes s → (i q c : ℕ) → i + 4 ≤ length s → q < 2 ^ 32 → word (drop i s) ≡ word (drop (i + 4) s) * 2 ^ 32 + q
+    → crcOver c (drop i s) ≡ crcOver (steps 32 (bitXor c q)) (drop (i + 4) s)
+crc-four s h i q c l b e =
+    let m = 8 * length (drop (i + 4) s) in
+    let n : 8 * length (drop i s) ≡ 32 + m = simp length-drop (omega arith) in
+    over-word (drop i s) (drop-bytes i s h) c
+    ∙ ap₂ (λ (k x : ℕ). steps k (bitXor c x)) n e
+    ∙ sym (read-in 32 m c q (word (drop (i + 4) s)) b)
+    ∙ sym (over-word (drop (i + 4) s) (drop-bytes (i + 4) s h) (steps 32 (bitXor c q)))
 
 -- a word is read
 pub taken : (s : List ℕ) (i k w z r : ℕ) → Turn k w z r → i + 8 ≤ length s → k ≤ 8 * (length s - (i + 8)) → w < 2 ^ 64

@@ -55,17 +55,22 @@ pub steps-zero : (c : ℕ) → steps 0 c ≡ c
 unfolding steps
 steps-zero c = refl
 
+-- what is read is taken in, whatever comes after it
+pub read-in : (k m c b h : ℕ) → b < 2 ^ k → steps m (bitXor (steps k (bitXor c b)) h) ≡ steps (k + m) (bitXor c (h * 2 ^ k + b))
+read-in k m c b h l =
+    ap (steps m)
+    (ap (bitXor (steps k (bitXor c b))) (sym (steps-shift k h))
+    ∙ sym (steps-xor k (bitXor c b) (h * 2 ^ k))
+    ∙ ap (steps k) (xor-assoc c b (h * 2 ^ k) ∙ ap (bitXor c) (xor-comm b (h * 2 ^ k) ∙ xor-shifted h k b l)))
+    ∙ sym (steps-add k m (bitXor c (h * 2 ^ k + b)))
+
 -- the register after the bytes
 pub over-word : (bs : List ℕ) → Bytes bs → (c : ℕ) → crcOver c bs ≡ steps (8 * length bs) (bitXor c (word bs))
 unfolding crcOver word
 over-word [] h c = sym (steps-zero (bitXor c 0) ∙ xor-zero-r c)
 over-word (b ∷ bs) h c =
     over-word bs (λ j. h (suc j)) (steps 8 (bitXor c b))
-    ∙ ap (steps (8 * length bs))
-    (ap (bitXor (steps 8 (bitXor c b))) (sym (steps-shift 8 (word bs)))
-    ∙ sym (steps-xor 8 (bitXor c b) (word bs * 2 ^ 8))
-    ∙ ap (steps 8) (xor-assoc c b (word bs * 2 ^ 8) ∙ ap (bitXor c) (xor-comm b (word bs * 2 ^ 8) ∙ xor-shifted (word bs) 8 b (h 0))))
-    ∙ sym (steps-add 8 (8 * length bs) (bitXor c (word bs * 2 ^ 8 + b)))
+    ∙ read-in 8 (8 * length bs) c b (word bs) (h 0)
     ∙ ap (λ (n : ℕ). steps n (bitXor c (word bs * 2 ^ 8 + b))) (omega arith)
 
 -- the register fits 32 bits

@@ -6,18 +6,23 @@ use native.Mathlib.Nat.{add-assoc}
 use lib.Dec.{T}
 use lib.Bits.{bitXor, xor-lt, xor-zero-r}
 use Rattle.crc32.specs.Crc32.{step, steps}
-use Rattle.crc32.specs.Fold.{up, over, num, Turn, fifth, one, two, four}
+use Rattle.crc32.specs.Fold.{up, over, num, Turn, fifth}
 use Rattle.crc32.proofs.Xor.{xor-assoc}
 use Rattle.crc32.proofs.Linear.{steps-xor, steps-add, steps-shift, steps-zero}
-use Rattle.crc32.proofs.Agree.{Lin, id, lup, down, low, both, after, above, over-xor, lin-steps, lin-fifth, lin-one, lin-two, lin-four, same, agree, falls, down-id, down-after, down-test, descend}
+use Rattle.crc32.proofs.Agree.{Lin, id, lup, down, low, both, after, above, over-xor, lin-steps, lin-fifth, same, agree, falls, down-id, down-after, down-test, descend}
 
--- the register after a word
-abbrev folded : ℕ → ℕ
-folded w = one (one (two (four w)) / 2 ^ 32) / 2 ^ 32
-
-pub folds : (w : ℕ) → w < 2 ^ 64 → folded w ≡ steps 64 w
-unfolding same steps step one two four
-folds = agree folded (steps 64) (down 32 (after lin-one (down 32 (after lin-one (after lin-two lin-four))))) (lin-steps 64) 64 tt
+-- the register after four bytes, each by itself
+pub four-fold : (x : ℕ) → x < 2 ^ 64
+    → bitXor (x / 2 ^ 32) (bitXor (bitXor (steps 32 (x % 2 ^ 8)) (steps 24 (x / 2 ^ 8 % 2 ^ 8))) (bitXor (steps 16 (x / 2 ^ 16 % 2 ^ 8)) (steps 8 (x / 2 ^ 24 % 2 ^ 8)))) ≡ steps 32 x
+unfolding same steps step
+four-fold =
+    agree (λ x. bitXor (x / 2 ^ 32) (bitXor (bitXor (steps 32 (x % 2 ^ 8)) (steps 24 (x / 2 ^ 8 % 2 ^ 8))) (bitXor (steps 16 (x / 2 ^ 16 % 2 ^ 8)) (steps 8 (x / 2 ^ 24 % 2 ^ 8))))) (steps 32)
+    (both (down 32 id)
+    (both (both (after (lin-steps 32) (low 8 id)) (after (lin-steps 24) (low 8 (down 8 id))))
+    (both (after (lin-steps 16) (low 8 (down 16 id))) (after (lin-steps 8) (low 8 (down 24 id))))))
+    (lin-steps 32)
+    64
+    tt
 
 -- and after a byte, by its halves
 pub byte-fold : (x : ℕ) → x < 2 ^ 32 → bitXor (x / 2 ^ 8) (bitXor (steps 8 (x % 2 ^ 4)) (steps 4 (x / 2 ^ 4 % 2 ^ 4))) ≡ steps 8 x

@@ -49,13 +49,3 @@ left s i z = steps (8 * (length s - i)) (bitXor (word (drop i s)) z)
 -- x^31 + x^30 + x^27 + x^26 + x^23 + x^21 + x^19 + x^17 + x^7 + x^4 + x^3 + x^2 + x is x^96, up to a multiple of the polynomial
 unfoldable pub fifth : ℕ → ℕ
 fifth w = bitXor (bitXor (bitXor (bitXor (up 1 (bitXor w (up 1 w))) (up 3 (bitXor w (up 1 w)))) (up 7 w)) (up 17 (bitXor (bitXor w (up 2 w)) (up 4 (bitXor w (up 2 w)))))) (up 26 (bitXor (bitXor w (up 1 w)) (up 4 (bitXor w (up 1 w)))))
-
--- the polynomial, and what it is at x^2, x^4 and x^8
-unfoldable pub one : ℕ → ℕ
-one w = bitXor (bitXor (bitXor (bitXor (bitXor (bitXor (bitXor w (up 6 w)) (up 16 (bitXor w (up 6 w)))) (up 9 (bitXor w (up 1 w)))) (up 20 (bitXor w (up 1 w)))) (up 24 (bitXor (bitXor w (up 1 w)) (up 3 (bitXor w (up 1 w)))))) (up 30 (bitXor w (up 1 w)))) (up 32 w)
-
-unfoldable pub two : ℕ → ℕ
-two w = bitXor (bitXor (bitXor (bitXor (bitXor (bitXor w (up 12 w)) (up 32 (bitXor w (up 12 w)))) (up 18 (bitXor w (up 2 w)))) (up 40 (bitXor w (up 2 w)))) (up 48 (bitXor (bitXor w (up 2 w)) (up 6 (bitXor w (up 2 w)))))) (up 60 (bitXor w (up 2 w)))
-
-unfoldable pub four : ℕ → ℕ
-four w = bitXor (bitXor (bitXor (bitXor w (up 48 w)) (up 24 (bitXor w (up 48 w)))) (up 36 (bitXor w (up 48 w)))) (up 40 (bitXor w (up 48 w)))

@@ -1,4 +1,4 @@
-// The CRC-32 of ISO 3309 and ITU-T V.42, as crc32fast computes it, without tables.
+// The CRC-32 of ISO 3309 and ITU-T V.42, as crc32fast computes it.
 //
 //     let check = crc32::hash(bytes);
 //
@@ -8,7 +8,8 @@
 //     let check = crc32::finish(register);
 //
 // Fast, because a sparse multiple of the polynomial says how a bit may be taken away at one place and put back at a few later ones. So bytes
-// are read whole words at a time, and put off until few are left; only these are divided.
+// are read whole words at a time, and put off until few are left; only these are looked up.
+//   table  four bytes at once, for the last word and for few bytes.
 //   words  up to LONG bytes: eight a turn, in registers; the odd bytes come first, as a word of their own.
 //   long   from there on: a multiple whose places are whole bytes, so that LLVM moves sixteen at once.
 // What the standard says, a bit at a time, is in specs/Crc32.antt, and every function here is proved equal to it.
@@ -18,6 +19,7 @@ ghost use Rattle.crc32.specs.Crc32.{crcOver, crc32};
 
 mod load;
 mod long;
+mod table;
 mod words;
 
 // The register before the first byte.
@@ -43,9 +45,13 @@ pub fn finish(register: u32) -> u32
     register ^ 0xFFFF_FFFF
 }
 
-// The check value of `bytes`.
+// The check value of `bytes`. It chooses by the length as `update` does, and by itself: so LLVM makes both choices where they are called, and
+// a slice is handed on once. Handed on again, it would be read back from memory before it is written, which costs as much as a few bytes.
 pub fn hash(bytes: &[u8]) -> u32
     ensures { λ r. ⌜ r ≡ crc32 (now (bytes .entry)) ⌝ }
 {
-    finish(update(START, bytes))
+    if bytes.len() < LONG {
+        return finish(words::over(START, bytes));
+    }
+    finish(long::over(START, bytes))
 }

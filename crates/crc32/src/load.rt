@@ -18,7 +18,7 @@ fn pair(s: &[u8], i: usize) -> u64
     wide(s[i]) + wide(s[i + 1]) * 256
 }
 
-fn quad(s: &[u8], i: usize) -> u64
+pub(crate) fn quad(s: &[u8], i: usize) -> u64
     requires { ⌜ i + 4 ≤ length (now s) ⌝ }
     ensures { λ r. ⌜ (r < 2 ^ 32) × (word (drop i (now (s .entry))) ≡ word (drop (i + 4) (now (s .entry))) * 2 ^ 32 + r) ⌝ }
 {

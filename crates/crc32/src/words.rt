@@ -8,9 +8,11 @@ ghost use lib.Bits.{bitXor};
 ghost use lib.ListN.{length, drop};
 ghost use Rattle.little_endian.specs.LittleEndian.{word};
 ghost use Rattle.crc32.specs.Crc32.{steps, crcOver};
-ghost use Rattle.crc32.specs.Fold.{held, past, pulled, over, left, Turn, fifth, one, two, four};
+ghost use Rattle.crc32.specs.Fold.{held, past, pulled, over, left, Turn, fifth};
 use crate::load::load;
+use crate::load::quad;
 use crate::load::wide;
+use crate::table::four_bytes;
 
 // What is still to be taken into the bytes to come, the lowest word first.
 struct Pend {
@@ -75,35 +77,11 @@ fn mid(z: Pend, w: u64) -> Pend
     }
 }
 
-// The polynomial, and what it is at x^2 and x^4.
-fn times_one(w: u64) -> u64
-    ensures { λ r. ⌜ r ≡ one w ⌝ }
-{
-    let u = w ^ (w << 1);
-    let t = w ^ (w << 6);
-    t ^ (t << 16) ^ (u << 9) ^ (u << 20) ^ ((u ^ (u << 3)) << 24) ^ (u << 30) ^ (w << 32)
-}
-
-fn times_two(w: u64) -> u64
-    ensures { λ r. ⌜ r ≡ two w ⌝ }
-{
-    let u = w ^ (w << 2);
-    let t = w ^ (w << 12);
-    t ^ (t << 32) ^ (u << 18) ^ (u << 40) ^ ((u ^ (u << 6)) << 48) ^ (u << 60)
-}
-
-fn times_four(w: u64) -> u64
-    ensures { λ r. ⌜ r ≡ four w ⌝ }
-{
-    let t = w ^ (w << 48);
-    t ^ (t << 24) ^ (t << 36) ^ (t << 40)
-}
-
-// The register after a word: the word over the polynomial, as a power series, and the polynomial times the end of that.
+// The register after a word.
 fn fold(w: u64) -> u64
     ensures { λ r. ⌜ r ≡ steps 64 w ⌝ }
 {
-    times_one(times_one(times_two(times_four(w))) >> 32) >> 32
+    four_bytes(four_bytes(w))
 }
 
 // No word comes after.
@@ -180,17 +158,42 @@ fn byte(c: u64, b: u64) -> u64
     (x >> 8) ^ (whole(x % 16) ^ half(x / 16 % 16))
 }
 
-// The register after few bytes, one a turn.
-fn few(register: u32, s: &[u8]) -> u32
-    ensures { λ r. ⌜ r ≡ crcOver register (now (s .entry)) ⌝ }
+// The register after the bytes from `at` on, one a turn.
+fn singly(from: u64, s: &[u8], at: usize) -> u32
+    requires { ⌜ (from < 2 ^ 32) × (at ≤ length (now s)) ⌝ }
+    ensures { λ r. ⌜ r ≡ crcOver from (drop at (now (s .entry))) ⌝ }
 {
-    let mut c = register as u64;
-    let mut i = 0;
+    let mut c = from;
+    let mut i = at;
     while i < s.len() {
         c = byte(c, wide(s[i]));
         i += 1;
     }
     c as u32
+}
+
+// The register after four bytes at i.
+fn four_at(c: u64, s: &[u8], i: usize) -> u64
+    requires { ⌜ (c < 2 ^ 32) × (i + 4 ≤ length (now s)) ⌝ }
+    ensures { λ r. ⌜ (r < 2 ^ 32) × (crcOver c (drop i (now (s .entry))) ≡ crcOver r (drop (i + 4) (now (s .entry)))) ⌝ }
+{
+    four_bytes(c ^ quad(s, i))
+}
+
+// Below so many bytes words are not worth while.
+const FEW: usize = 16;
+
+// The register after few bytes, four a turn.
+fn few(register: u32, s: &[u8]) -> u32
+    ensures { λ r. ⌜ r ≡ crcOver register (now (s .entry)) ⌝ }
+{
+    let mut c = register as u64;
+    let mut i = 0;
+    while 4 <= s.len() - i {
+        c = four_at(c, s, i);
+        i += 4;
+    }
+    singly(c, s, i)
 }
 
 // The first h bytes as a word of their own: zeros before them, and before the register, change nothing.
@@ -405,7 +408,7 @@ pub(crate) fn over(register: u32, bytes: &[u8]) -> u32
     ensures { λ r. ⌜ r ≡ crcOver register (now (bytes .entry)) ⌝ }
 {
     let n = bytes.len();
-    if n < 8 {
+    if n < FEW {
         return few(register, bytes);
     }
     let h = n % 8;

@@ -1,13 +1,11 @@
 -- `crc32::words::few` meets its contract: the register after i bytes, over the rest, is the register over all.
 -- Assumes nothing.
 use borrow.Author.Needs.{needs}
-use mathlib.Core.Path.{_≡_, refl, sym, ap, _∙_}
-use Prim.Native.Nat.{ℕ, _+_, _-_, _^_, _≤_, _<_}
+use mathlib.Core.Path.{_≡_, refl, sym, _∙_}
+use Prim.Native.Nat.{_-_, _^_, _≤_, _<_}
 use native.Mathlib.Omega.{arith}
-use lib.Bits.{bitXor}
 use lib.ListN.{length, drop}
-use Rattle.crc32.specs.Crc32.{steps, crcOver}
-use Rattle.crc32.proofs.Left.{crc-first, all-done}
+use Rattle.crc32.specs.Crc32.{crcOver}
 use Rattle.crc32.proofs.words.few.Statement.{statement}
 use Rattle.crc32.proofs.words.few.Tie as tie
 
@@ -20,14 +18,11 @@ abbrev μ-loop : tie.MeasureT-loop
 loop-holds : tie.Need-loop-holds Inv-loop μ-loop
 loop-holds c = (omega arith, (omega arith, refl))
 
-shared-slice-read-wide : tie.Need-shared-slice-read-wide Inv-loop μ-loop
-shared-slice-read-wide c = search needs
+sub-loop : tie.Need-sub-loop Inv-loop μ-loop
+sub-loop c = search needs
 
-wide-requires : tie.Need-wide-requires Inv-loop μ-loop
-wide-requires c κs = search needs
-
-byte-requires : tie.Need-byte-requires Inv-loop μ-loop
-byte-requires c κs = search needs
+four-at-requires : tie.Need-four-at-requires Inv-loop μ-loop
+four-at-requires c κs = search needs
 
 add-i : tie.Need-add-i Inv-loop μ-loop
 add-i c = search needs
@@ -36,27 +31,13 @@ loop-less : tie.Need-loop-less Inv-loop μ-loop
 loop-less c = search needs
 
 loop-again : tie.Need-loop-again Inv-loop μ-loop
-loop-again c =
-    let s = c .before .before .before .before .before .before .args .s .now in
-    let i = c .before .before .before .before .loop .i in
-    let k = c .before .before .before .before .loop .c in
-    let e = c .before .before .before .before .loop .inv .1 .1 in (
-      omega arith,
-      (
-        c .byte .ensures .1,
-        ap (λ (x : ℕ). crcOver x (drop (i + 1) s)) (c .byte .ensures .0 ∙ ap (λ (b : ℕ). steps 8 (bitXor k b)) (c .before .wide .ensures .0))
-            ∙ sym (crc-first s i (omega arith) k)
-            ∙ e,
-      ),
-    )
+loop-again c = (omega arith, (c .four-at .ensures .0, sym (c .four-at .ensures .1) ∙ c .before .before .loop .inv .1 .1))
 
-cast-result : tie.Need-cast-result Inv-loop μ-loop
-cast-result c = search needs
+singly-requires : tie.Need-singly-requires Inv-loop μ-loop
+singly-requires c κs = search needs
 
 returns : tie.Need-returns Inv-loop μ-loop
-returns c =
-    let s = c .before .before .before .args .s .now in
-    sym (all-done s (c .before .loop .i) (c .before .loop .c) (omega arith)) ∙ c .before .loop .inv .1 .1
+returns c = c .singly .ensures ∙ c .before .before .loop .inv .1 .1
 
 pub few-spec : {M : Type 1} → statement M
 few-spec =
@@ -65,11 +46,10 @@ few-spec =
     Inv-loop
     μ-loop
     loop-holds
-    shared-slice-read-wide
-    wide-requires
-    byte-requires
+    sub-loop
+    four-at-requires
     add-i
     loop-less
     loop-again
-    cast-result
+    singly-requires
     returns)

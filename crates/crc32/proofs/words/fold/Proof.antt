@@ -1,41 +1,20 @@
--- `crc32::words::fold` meets its contract: the four maps in a row are 64 steps.
+-- `crc32::words::fold` meets its contract: 32 steps twice.
 -- Assumes nothing.
 use borrow.Author.Needs.{needs}
-use mathlib.Core.Path.{ap, _∙_}
-use Prim.Native.Nat.{ℕ, _/_, _^_}
-use native.Mathlib.Omega.{arith}
-use Rattle.crc32.specs.Fold.{one, two}
-use Rattle.crc32.proofs.Turns.{folds}
+use mathlib.Core.Path.{sym, ap, _∙_}
+use Rattle.crc32.specs.Crc32.{steps}
+use Rattle.crc32.proofs.Linear.{steps-add}
 use Rattle.crc32.proofs.words.fold.Statement.{statement}
 use Rattle.crc32.proofs.words.fold.Tie as tie
 
-times-four-requires : tie.Need-times-four-requires
-times-four-requires c κs = search needs
+four-bytes-requires : tie.Need-four-bytes-requires
+four-bytes-requires c κs = search needs
 
-times-two-requires : tie.Need-times-two-requires
-times-two-requires c κs = search needs
-
-times-one-requires : tie.Need-times-one-requires
-times-one-requires c κs = search needs
-
-times-one-requires-2 : tie.Need-times-one-requires-2
-times-one-requires-2 c κs = search needs
+four-bytes-requires-2 : tie.Need-four-bytes-requires-2
+four-bytes-requires-2 c κs = search needs
 
 returns : tie.Need-returns
-returns c =
-    let w = c .before .before .before .before .args .w in
-    ap (λ (x : ℕ). x / 2 ^ 32)
-    (c .times-one2 .ensures
-    ∙ ap (λ (x : ℕ). one (x / 2 ^ 32))
-    (c .before .times-one .ensures ∙ ap one (c .before .before .times-two .ensures ∙ ap two (c .before .before .before .times-four .ensures))))
-    ∙ folds w (omega arith)
+returns c = c .four-bytes2 .ensures ∙ ap (steps 32) (c .before .four-bytes .ensures) ∙ sym (steps-add 32 32 (c .before .before .args .w))
 
 pub fold-spec : {M : Type 1} → statement M
-fold-spec =
-    tie.close
-    (tie.spec
-    times-four-requires
-    times-two-requires
-    times-one-requires
-    times-one-requires-2
-    returns)
+fold-spec = tie.close (tie.spec four-bytes-requires four-bytes-requires-2 returns)

@@ -9,7 +9,7 @@ use Rattle.crc32.proofs.words.half.Statement.{statement}
 use Rattle.crc32.proofs.words.half.Tie as tie
 
 none : tie.Need-returns-17
-none c = let h : 16 ≤ c .before .args .d = away 16 (c .before .args .d) (c .match .rest) in omega arith
+none c = let h : 16 ≤ c .before .args .d = away 0 16 (c .before .args .d) (omega arith) (c .match .rest) in omega arith
 
 pub half-spec : {M : Type 1} → statement M
 unfolding steps step

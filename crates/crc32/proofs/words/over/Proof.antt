@@ -29,6 +29,9 @@ far-to-requires c κs = search needs
 mid-to-requires : tie.Need-mid-to-requires
 mid-to-requires c κs = search needs
 
+sub-e : tie.Need-sub-e
+sub-e c = search needs
+
 near-to-requires : tie.Need-near-to-requires
 near-to-requires c κs = search needs
 
@@ -55,6 +58,7 @@ over-spec =
     many-requires
     far-to-requires
     mid-to-requires
+    sub-e
     near-to-requires
     end-requires
     returns-2)
