@@ -88,10 +88,30 @@ pub slabFor-least : (n j : ℕ) → j < slabFor n → sizeOf j < n + fieldWidth 
 unfolding slabFor sizeOf
 slabFor-least n j h = fits-least n slabSizes j h
 
+-- the walk may begin at any slab up to the one
+firstFit-drop : (n k : ℕ) (ss : List ℕ) → k ≤ firstFit n ss → k + firstFit n (drop k ss) ≡ firstFit n ss
+unfolding firstFit
+firstFit-drop n zero ss h = omega arith
+firstFit-drop n (suc k) [] h = absurd (omega arith)
+firstFit-drop n (suc k) (s ∷ ss) h = by (leb (n + fieldWidth s + checkWidth) s) h (firstFit-drop n k ss)
+  where
+    by : (t : Bool) → suc k ≤ cond t 0 (suc (firstFit n ss)) → (k ≤ firstFit n ss → k + firstFit n (drop k ss) ≡ firstFit n ss)
+        → suc k + firstFit n (drop k ss) ≡ cond t 0 (suc (firstFit n ss))
+    by true h r = absurd (omega arith)
+    by false h r = omega (arith, r (le-of-suc-le-suc h))
+
+pub walk-from : (n k : ℕ) → k ≤ slabFor n → walk n k ≡ slabFor n
+unfolding slabFor
+walk-from n k h = firstFit-drop n k slabSizes h
+
 -- ---- classOf
 pub classOf-slab : (n k : ℕ) → slabFor n ≡ k → k < slabs → classOf n ≡ Slab k
 unfolding classOf
 classOf-slab n k e h = simp (e, lt-ltb k slabs h)
+
+-- the slab at which the walk stands takes n
+pub classOf-found : (n k : ℕ) → k < 78 → walk n k ≡ slabFor n → leb (n + fieldWidth (sizeOf k) + checkWidth) (sizeOf k) ≡ true → classOf n ≡ Slab k
+classOf-found n k h w t = classOf-slab n k (sym w ∙ walk-turn n k h ∙ ap (λ (b : Bool). cond b k (walk n (k + 1))) t) h
 
 pub classOf-none : (n : ℕ) → slabFor n ≡ slabs → classOf n ≡ Refused (refusal tooLarge 0)
 unfolding classOf
@@ -147,6 +167,17 @@ sizeOf-ascends j zero h l = absurd (omega arith)
 sizeOf-ascends j (suc k) h l =
     ⊎-elim (λ (q : j ≡ k). rw q (step k (omega arith))) (λ (q : j < k). lt-trans (sizeOf-ascends j k q (omega arith)) (step k (omega arith)))
     (eq-or-lt-of-le (le-of-suc-le-suc h))
+
+-- a slab that is no larger than n bytes is passed, and so are those before it
+pub slabFor-passed : (n k : ℕ) → k < 78 → sizeOf k ≤ n → k + 1 ≤ slabFor n
+slabFor-passed n k h l =
+    by-test (ltb k (slabFor n)) (λ q. omega (arith, ltb-true k (slabFor n) q))
+    (λ q.
+    let u : slabFor n ≤ k = ltb-false k (slabFor n) q in
+    let takes = slabFor-takes n (omega arith) in
+    ⊎-elim (λ (e : slabFor n ≡ k). absurd (omega (arith, ap sizeOf e)))
+    (λ (j : slabFor n < k). absurd (omega (arith, sizeOf-ascends (slabFor n) k j h)))
+    (eq-or-lt-of-le u))
 
 -- ---- isSlabSize: by the odd part and the power of two
 halve : (n t : ℕ) → n % 2 ≡ 0 → n / 2 / 2 ^ t * 2 ^ t ≡ n / 2 → n / 2 ^ suc t * 2 ^ suc t ≡ n

@@ -6,9 +6,9 @@
 //     }
 ghost use mathlib.Core.Path.{_≡_};
 ghost use mathlib.Core.Bool.{_&&_};
-ghost use Prim.Native.Nat.{_+_};
+ghost use Prim.Native.Nat.{_+_, _≤_, _<_};
 ghost use lib.Dec.{leb};
-ghost use Rattle.sizes.specs.Sizes.{slabSizes, sizeOf, isSlabSize, fieldWidth, room, classOf};
+ghost use Rattle.sizes.specs.Sizes.{slabs, slabSizes, sizeOf, isSlabSize, fieldWidth, room, slabFor, classOf};
 ghost use Rattle.sizes.specs.OddPart.{goes};
 use refusal::Refusal;
 
@@ -196,11 +196,47 @@ fn takes(s: u64, n: u64) -> bool
     frame <= s && n <= s - frame
 }
 
-// The first slab that n bytes and their frame fit.
+// The largest slab that is no larger than n, by n's leading bits; 0 where n is below them all. Nothing is proved of it but that it is a slab:
+// `passed` asks the table.
+fn guess(n: u64) -> usize
+    ensures { λ r. ⌜ r < slabs ⌝ }
+{
+    let zeros = u64::leading_zeros(n);
+    if 57 < zeros {
+        return 0;
+    }
+    if 48 <= zeros {
+        return (4 * (57 - zeros)) as usize + (n >> (61 - zeros)) as usize % 4;
+    }
+    if 30 <= zeros {
+        let half = (n >> (62 - zeros)) as usize % 2;
+        if n < 196608 {
+            return (134 - 2 * zeros) as usize + half;
+        }
+        return (135 - 2 * zeros) as usize + half;
+    }
+    77
+}
+
+// So many slabs are no larger than n: they cannot take n bytes and a frame.
+fn passed(n: u64) -> usize
+    ensures { λ r. ⌜ (r ≤ slabs) × (r ≤ slabFor n) ⌝ }
+{
+    let slab = guess(n);
+    if slab_size(slab) <= n {
+        return slab + 1;
+    }
+    0
+}
+
+// The first slab that n bytes and their frame fit: the smallest, or one of the next three after those that are passed.
 pub fn slab_for_size(n: u64) -> Class
     ensures { λ r. ⌜ r ≡ classOf n ⌝ }
 {
-    let mut slab = 0;
+    if takes(slab_size(0), n) {
+        return Class::Slab(0);
+    }
+    let mut slab = passed(n);
     while slab < SLABS {
         if takes(slab_size(slab), n) {
             return Class::Slab(slab);
