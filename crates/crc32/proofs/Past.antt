@@ -2,12 +2,12 @@
 -- `far-turn` says.
 -- Assumes nothing.
 use mathlib.Core.Path.{_≡_, refl, sym, ap, ap₂, _∙_, subst}
-use Prim.Native.Nat.{ℕ, _+_, _*_, _/_, _%_, _^_, _<_}
+use Prim.Native.Nat.{ℕ, _+_, _/_, _^_, _<_}
 use lib.Bits.{bitXor, xor-comm, xor-zero-r}
 use Rattle.crc32.specs.Crc32.{steps}
 use Rattle.crc32.specs.Fold.{up, over, num, Turn, pulled, pastOf}
 use Rattle.crc32.proofs.Xor.{xor-assoc, xor-swap}
-use Rattle.crc32.proofs.Agree.{Lin, id, lup, down, over-xor}
+use Rattle.crc32.proofs.Agree.{id, lup, down, over-xor}
 use Rattle.crc32.proofs.Turns.{far-turn}
 
 -- x is a and b together

@@ -6,7 +6,7 @@ use Prim.Native.Nat.{ℕ, zero, suc, _+_, _-_, _*_, _/_, _%_, _^_, _≤_, _<_}
 use native.Mathlib.Numerals.{add-one, one-add}
 use native.Mathlib.Omega.{arith}
 use lib.Dec.{leb, ltb, eqb, lit≤, lit<}
-use lib.ListN.{length, getD, drop, drop-of-length-le, List·getD-eq-default}
+use lib.ListN.{length, getD, drop, List·getD-eq-default}
 use lib.Seq.{drop-cons}
 use borrow.Author.Tests.{lt-ltb, ltb-true, ltb-false, leb-true, leb-false, eqb-true, ne-eqb}
 use mathlib.Core.Logic.{⊎-elim}
@@ -17,7 +17,6 @@ use Rattle.refusal.specs.Refusals.{refusal, tooLarge}
 use Rattle.refusal.proofs.Tests.{clash, and-true, or-true, by-test, both-ways}
 use Rattle.sizes.specs.Sizes.{slabSizes, sizeOf, isIn, isSlabSize, slabs, fieldWidth, checkWidth, room, firstFit, slabFor, classOf}
 use Rattle.sizes.specs.OddPart.{goes}
-use Rattle.sizes.specs.declared.Class.{Class}
 use Rattle.sizes.specs.declared.Class.the-variants.{Slab, Refused}
 
 -- ---- fieldWidth

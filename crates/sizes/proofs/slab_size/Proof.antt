@@ -1,4 +1,4 @@
-use mathlib.Core.Path.{sym, _∙_}
+use mathlib.Core.Path.{sym}
 use borrow.Author.Tests.{lt-ltb, le-ltb, eq-eqb, ne-eqb}
 use Rattle.sizes.proofs.Laws.{sizeOf-worked, sizeOf-past}
 use borrow.Author.Needs.{needs}

@@ -1,9 +1,7 @@
 use Rattle.refusal.proofs.Tests.{leb-same}
-use mathlib.Core.Path.{sym, _∙_}
 use Prim.Native.Nat.{_+_, _-_}
 use Rattle.sizes.specs.Sizes.{fieldWidth}
 use native.Mathlib.Omega.{arith}
-use borrow.Author.Tests.{le-leb, lt-leb}
 use Rattle.sizes.proofs.Laws.{fieldWidth-le}
 use borrow.Author.Needs.{needs}
 use Rattle.sizes.proofs.takes.Statement.{statement}
