@@ -1,12 +1,12 @@
 // pack SLOTS SLAB SLOT: ok LOCATION | REFUSED
 // unpack SLOTS LOCATION: ok SLAB SLOT | none | REFUSED
-use crate::told;
-use crate::words;
-use crate::words::Numeral;
-use crate::words::Pair;
 use address::Packed;
 use address::SlabAddress;
 use address::Unpacked;
+use answers::told;
+use answers::words;
+use answers::words::Numeral;
+use answers::words::Pair;
 
 fn is_packed(slots: usize, slab: usize, slot: usize, answer: &[u8]) -> bool {
     let at = SlabAddress { slab, slot };

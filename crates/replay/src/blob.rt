@@ -3,9 +3,9 @@ ghost use mathlib.Core.Path.{_≡_};
 ghost use lib.ListN.{length};
 use crate::digits;
 use crate::front;
-use crate::words;
-use crate::words::Numeral;
-use crate::words::Pair;
+use answers::words;
+use answers::words::Numeral;
+use answers::words::Pair;
 
 // The most bytes that a line speaks of.
 pub const MOST: usize = 98304;

@@ -4,74 +4,63 @@ use crate::checks;
 use crate::classes;
 use crate::cookies;
 use crate::cutoffs;
-use crate::file;
 use crate::frames;
-use crate::source;
-use crate::tally::Tally;
-use crate::words;
+use answers::file;
+use answers::source;
+use answers::tally::Tally;
+use answers::words;
 
 // Makes the call of this name; its arguments and its answer are the words after the name.
 fn call(name: &[u8], rest: &[u8]) -> bool {
-    if check::same(name, b"class") {
+    if words::same(name, b"class") {
         return classes::class(rest);
     }
-    if check::same(name, b"crc") {
+    if words::same(name, b"crc") {
         return checks::crc(rest);
     }
-    if check::same(name, b"cutoff") {
+    if words::same(name, b"cutoff") {
         return cutoffs::cutoff(rest);
     }
     call_on_bytes(name, rest)
 }
 
 fn call_on_bytes(name: &[u8], rest: &[u8]) -> bool {
-    if check::same(name, b"frame") {
+    if words::same(name, b"frame") {
         return frames::frame(rest);
     }
-    if check::same(name, b"unframe") {
+    if words::same(name, b"unframe") {
         return frames::unframe(rest);
     }
-    if check::same(name, b"cookie") {
+    if words::same(name, b"cookie") {
         return cookies::cookie(rest);
     }
-    if check::same(name, b"uncookie") {
+    if words::same(name, b"uncookie") {
         return cookies::uncookie(rest);
     }
     call_on_addresses(name, rest)
 }
 
 fn call_on_addresses(name: &[u8], rest: &[u8]) -> bool {
-    if check::same(name, b"pack") {
+    if words::same(name, b"pack") {
         return addresses::pack(rest);
     }
-    if check::same(name, b"unpack") {
+    if words::same(name, b"unpack") {
         return addresses::unpack(rest);
     }
     false
 }
 
 fn agrees(line: &[u8]) -> bool {
-    source::is_call(line) && call(words::word(line, 1), words::after(line, 2))
-}
-
-fn with_line(tally: Tally, name: &[u8], line: &[u8]) -> Tally {
-    let counted = tally.with_line();
-    if source::is_remark(line) {
-        return counted;
-    }
-    let called = counted.with_call(source::is_rust(line));
-    if agrees(line) {
-        called
-    } else {
-        called.with_difference(name)
-    }
+    source::is_remark(line)
+        || source::is_call(line) && call(words::word(line, 1), words::after(line, 2))
 }
 
 fn each_line(name: &[u8], text: &[u8]) -> Tally {
     let mut tally = Tally::new();
     let mut at = 0;
     while at < text.len() {
-        tally = with_line(tally, name, file::line_at(text, at));
+        let line = file::line_at(text, at);
+        tally = tally.with_line(name, line, agrees(line));
         at = file::next_line(text, at);
     }
     tally

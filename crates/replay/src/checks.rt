@@ -1,8 +1,8 @@
 // crc BYTES: ok NUMBER
 use crate::blob;
 use crate::front;
-use crate::told;
-use crate::words;
+use answers::told;
+use answers::words;
 
 pub fn crc(rest: &[u8]) -> bool {
     let mut space = blob::space();

@@ -1,7 +1,7 @@
 // class LENGTH: ok SLAB | REFUSED
-use crate::told;
-use crate::words;
-use crate::words::Numeral;
+use answers::told;
+use answers::words;
+use answers::words::Numeral;
 use sizes::Class;
 
 pub fn class(rest: &[u8]) -> bool {

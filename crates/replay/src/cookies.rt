@@ -4,9 +4,9 @@ use crate::blob;
 use crate::digits;
 use crate::front;
 use crate::lent;
-use crate::told;
-use crate::words;
-use crate::words::Numeral;
+use answers::told;
+use answers::words;
+use answers::words::Numeral;
 use settings::PersistentSettings;
 use settings::Stored;
 use settings::Verified;
@@ -21,7 +21,7 @@ fn is_written(cookie: &[u8], answer: &[u8]) -> bool {
     let expected: &mut [u8] = &mut space;
     told::two_words(answer, b"ok")
         && digits::put(words::word(answer, 1), expected)
-        && check::same(cookie, expected)
+        && words::same(cookie, expected)
 }
 
 fn is_cookie(space: &mut [u8], leaf_fanout: u64, answer: &[u8]) -> bool {

@@ -1,4 +1,6 @@
 // Bytes as hex digits, two each; `-` says no bytes.
+use answers::words;
+
 enum Byte {
     Is(u8),
     Not,
@@ -50,7 +52,7 @@ fn put_each(digits: &[u8], out: &mut [u8]) -> bool {
 // Fills `out` with the bytes that the digits say. False where they say another number of bytes, or are no digits.
 pub fn put(digits: &[u8], out: &mut [u8]) -> bool {
     if out.len() == 0 {
-        return check::same(digits, b"-");
+        return words::same(digits, b"-");
     }
     if digits.len() % 2 != 0 || digits.len() / 2 != out.len() {
         return false;

@@ -4,9 +4,9 @@ use crate::blob;
 use crate::digits;
 use crate::front;
 use crate::lent;
-use crate::told;
-use crate::words;
-use crate::words::Numeral;
+use answers::told;
+use answers::words;
+use answers::words::Numeral;
 use frame::Slab;
 use frame::Verdict;
 use frame::Written;
@@ -30,7 +30,7 @@ fn is_written(slot: &[u8], bytes: &[u8], answer: &[u8]) -> bool {
     }
     told::two_words(answer, b"ok")
         && put_tail(words::word(answer, 1), expected)
-        && check::same(slot, expected)
+        && words::same(slot, expected)
 }
 
 fn is_framed(slot: &mut [u8], object: &[u8], bytes: &[u8], answer: &[u8]) -> bool {
@@ -62,7 +62,7 @@ pub fn frame(rest: &[u8]) -> bool {
 
 // Whether the slot's own first n bytes are handed back.
 fn hands_back(slot: &[u8], n: usize) -> bool {
-    n <= slot.len() && check::same(Slab::read(slot), front::first(slot, n))
+    n <= slot.len() && words::same(Slab::read(slot), front::first(slot, n))
 }
 
 fn is_unframed(slot: &[u8], answer: &[u8]) -> bool {

@@ -12,14 +12,9 @@ mod classes;
 mod cookies;
 mod cutoffs;
 mod digits;
-mod file;
 mod frames;
 mod front;
 mod lent;
-mod source;
-mod tally;
-mod told;
-mod words;
 
 fn main() {
     calls::file(b"leaves.txt");

@@ -20,6 +20,9 @@ loop-holds c = search needs
 line-at-requires : tie.Need-line-at-requires Inv-loop μ-loop
 line-at-requires c κs = search needs
 
+agrees-requires : tie.Need-agrees-requires Inv-loop μ-loop
+agrees-requires c κs = search needs
+
 with-line-requires : tie.Need-with-line-requires Inv-loop μ-loop
 with-line-requires c κs = search needs
 
@@ -44,6 +47,7 @@ each-line-spec =
     new-requires
     loop-holds
     line-at-requires
+    agrees-requires
     with-line-requires
     next-line-requires
     loop-less

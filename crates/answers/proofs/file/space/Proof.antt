@@ -2,8 +2,8 @@
 use mathlib.Core.Path.{sym}
 use Prim.Native.Nat.{ℕ}
 use lib.ListN.{length-replicate}
-use Rattle.replay.proofs.file.space.Statement.{statement}
-use Rattle.replay.proofs.file.space.Tie as tie
+use Rattle.answers.proofs.file.space.Statement.{statement}
+use Rattle.answers.proofs.file.space.Tie as tie
 
 returns : tie.Need-returns
 returns c = sym (length-replicate {A = ℕ} 524288 0)

@@ -1,4 +1,5 @@
 // How many lines, calls and differences a file has.
+use crate::source;
 use libc::STDOUT_FILENO;
 
 pub struct Tally {
@@ -35,22 +36,30 @@ impl Tally {
         }
     }
 
-    pub fn with_line(mut self) -> Tally {
-        self.lines = one_more(self.lines);
+    fn with_call(mut self) -> Tally {
+        self.calls = one_more(self.calls);
         self
     }
 
-    // The line counted last is a call; `rust` where the Rust gave its answer.
-    pub fn with_call(mut self, rust: bool) -> Tally {
-        self.calls = one_more(self.calls);
-        if rust {
-            self.rusts = one_more(self.rusts);
+    fn with_rust(mut self) -> Tally {
+        self.rusts = one_more(self.rusts);
+        self
+    }
+
+    // What the line is: a call or another line, and whose answer it has.
+    fn with_source(mut self, line: &[u8]) -> Tally {
+        self.lines = one_more(self.lines);
+        if source::is_rust(line) {
+            return self.with_call().with_rust();
+        }
+        if source::is_call(line) {
+            return self.with_call();
         }
         self
     }
 
     // The line counted last differs.
-    pub fn with_difference(mut self, name: &[u8]) -> Tally {
+    fn with_difference(mut self, name: &[u8]) -> Tally {
         self.differences = one_more(self.differences);
         if self.differences <= NAMED {
             text(name);
@@ -58,6 +67,16 @@ impl Tally {
             count(self.lines, b" differs\n");
         }
         self
+    }
+
+    // One more line of the file of this name.
+    pub fn with_line(self, name: &[u8], line: &[u8], agrees: bool) -> Tally {
+        let counted = self.with_source(line);
+        if agrees {
+            counted
+        } else {
+            counted.with_difference(name)
+        }
     }
 
     pub fn say(self, name: &[u8]) {

@@ -2,8 +2,8 @@
 use Prim.Native.Nat.{_≤_, _-_}
 use lib.ListN.{length}
 use borrow.Author.Needs.{needs}
-use Rattle.replay.proofs.words.start.Statement.{statement}
-use Rattle.replay.proofs.words.start.Tie as tie
+use Rattle.answers.proofs.words.start.Statement.{statement}
+use Rattle.answers.proofs.words.start.Tie as tie
 
 abbrev Inv-loop : tie.InvT-loop
 Inv-loop line k at₀ i₀ at i = (i ≤ k) × (at ≤ length line)

@@ -2,8 +2,8 @@
 use Prim.Native.Nat.{_≤_, _-_}
 use lib.ListN.{length}
 use borrow.Author.Needs.{needs}
-use Rattle.replay.proofs.words.decimal.Statement.{statement}
-use Rattle.replay.proofs.words.decimal.Tie as tie
+use Rattle.answers.proofs.words.decimal.Statement.{statement}
+use Rattle.answers.proofs.words.decimal.Tie as tie
 
 abbrev Inv-loop : tie.InvT-loop
 Inv-loop digits value₀ i₀ value i = i ≤ length digits

@@ -1,6 +1,6 @@
 // A file, whole, and its lines.
 ghost use mathlib.Core.Path.{_≡_};
-ghost use Prim.Native.Nat.{_≤_, _<_};
+ghost use Prim.Native.Nat.{_+_, _-_, _≤_};
 ghost use lib.ListN.{length};
 ghost use Rattle.io.specs.Counts.{Counts};
 
@@ -35,19 +35,22 @@ fn line_end(text: &[u8], at: usize) -> usize
     bytes::scan::find(text, at, text.len(), b'\n')
 }
 
-// The line that starts at `at`.
-pub fn line_at(text: &[u8], at: usize) -> &[u8]
-    requires { ⌜ at < length (now text) ⌝ }
-{
+// The line that starts at `at`; past the end of the text there is an empty one.
+pub fn line_at(text: &[u8], at: usize) -> &[u8] {
+    if text.len() < at {
+        return &text[..0];
+    }
     let end = line_end(text, at);
     &text[at..end]
 }
 
-// Where the next line starts.
+// Where the next line starts: less of the text is left, where any was.
 pub fn next_line(text: &[u8], at: usize) -> usize
-    requires { ⌜ at < length (now text) ⌝ }
-    ensures { λ r. ⌜ (at < r) × (r ≤ length (now (text .entry))) ⌝ }
+    ensures { λ r. ⌜ (r ≤ length (now (text .entry))) × (length (now (text .entry)) - r ≤ length (now (text .entry)) - (at + 1)) ⌝ }
 {
+    if text.len() <= at {
+        return text.len();
+    }
     let end = line_end(text, at);
     if end < text.len() { end + 1 } else { end }
 }

@@ -3,7 +3,7 @@ use crate::words;
 use crate::words::Numeral;
 use refusal::Refusal;
 
-fn says_number(answer: &[u8], k: usize, n: u64) -> bool {
+pub fn says_number(answer: &[u8], k: usize, n: u64) -> bool {
     match words::number(answer, k) {
         Numeral::Is(m) => m == n,
         Numeral::Not => false,

@@ -13,6 +13,20 @@ pub enum Pair {
     Not,
 }
 
+pub fn same(a: &[u8], b: &[u8]) -> bool {
+    if a.len() != b.len() {
+        return false;
+    }
+    let mut i = 0;
+    while i < a.len() {
+        if a[i] != b[i] {
+            return false;
+        }
+        i += 1;
+    }
+    true
+}
+
 fn space_from(line: &[u8], at: usize) -> usize
     requires { ⌜ at ≤ length (now line) ⌝ }
     ensures { λ r. ⌜ (at ≤ r) × (r ≤ length (now (line .entry))) ⌝ }
@@ -55,7 +69,7 @@ pub fn is_last(line: &[u8], k: usize) -> bool {
 }
 
 pub fn says(line: &[u8], k: usize, expected: &[u8]) -> bool {
-    check::same(word(line, k), expected)
+    same(word(line, k), expected)
 }
 
 // One more decimal digit.
