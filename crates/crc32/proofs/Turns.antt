@@ -34,6 +34,13 @@ byte-fold =
     32
     tt
 
+-- a map that steps down from power to power says where a word is put off to, if it does at the highest
+put-off : (k : ℕ) (f : ℕ → ℕ) → Lin f → T (falls f 63) → steps (64 + k) 0 ≡ steps k (f 0) → steps (64 + k) (2 ^ 63) ≡ steps k (f (2 ^ 63))
+    → (y : ℕ) → y < 2 ^ 64 → steps (64 + k) y ≡ steps k (f y)
+put-off k f l t z h =
+    agree (steps (64 + k)) (λ y. steps k (f y)) (lin-steps (64 + k)) (after (lin-steps k) l) 64
+    (descend (steps (64 + k)) (λ y. steps k (f y)) 63 (down-after (64 + k) down-id) (down-after k (down-test 63 f t)) z h)
+
 -- where x^300 puts a word
 unfoldable farOf : ℕ → ℕ
 farOf y = num 0 (bitXor (up 17 y) (up 55 y)) (bitXor (bitXor (y / 2 ^ 47) (y / 2 ^ 9)) (up 19 y)) (bitXor (y / 2 ^ 45) (up 44 y)) (y / 2 ^ 20)
@@ -61,7 +68,53 @@ unfolding falls step farOf num over
 far-falls = tt
 
 far-word : (y : ℕ) → y < 2 ^ 64 → steps 332 y ≡ steps 268 (farOf y)
-far-word = agree (steps 332) (λ y. steps 268 (farOf y)) (lin-steps 332) (after (lin-steps 268) lin-far) 64 (descend (steps 332) (λ y. steps 268 (farOf y)) 63 (down-after 332 down-id) (down-after 268 (down-test 63 farOf far-falls)) far-zero far-top)
+far-word = put-off 268 farOf lin-far far-falls far-zero far-top
+
+-- where x^274 does
+unfoldable fourOf : ℕ → ℕ
+fourOf y = num 0 (up 53 y) (bitXor (bitXor (y / 2 ^ 11) (up 7 y)) (up 63 y)) (bitXor (bitXor (y / 2 ^ 57) (y / 2 ^ 1)) (bitXor (up 7 y) (up 18 y))) (bitXor (y / 2 ^ 57) (y / 2 ^ 46))
+
+lin-four : Lin fourOf
+unfolding fourOf num
+lin-four = above lin-zero (above (lup 53 id) (above (both (both (down 11 id) (lup 7 id)) (lup 63 id)) (above (both (both (down 57 id) (down 1 id)) (both (lup 7 id) (lup 18 id))) (both (down 57 id) (down 46 id)))))
+
+four-zero : steps 306 0 ≡ steps 242 (fourOf 0)
+unfolding steps step fourOf num over
+four-zero = refl
+
+four-top : steps 306 (2 ^ 63) ≡ steps 242 (fourOf (2 ^ 63))
+unfolding steps step fourOf num over
+four-top = refl
+
+four-falls : T (falls fourOf 63)
+unfolding falls step fourOf num over
+four-falls = tt
+
+four-word : (y : ℕ) → y < 2 ^ 64 → steps 306 y ≡ steps 242 (fourOf y)
+four-word = put-off 242 fourOf lin-four four-falls four-zero four-top
+
+-- where x^212 does
+unfoldable threeOf : ℕ → ℕ
+threeOf y = num 0 (bitXor (bitXor (bitXor (up 1 y) (up 10 y)) (up 22 y)) (bitXor (up 41 y) (up 55 y))) (bitXor (bitXor (bitXor (bitXor (y / 2 ^ 63) (y / 2 ^ 54)) (y / 2 ^ 42)) (bitXor (y / 2 ^ 23) (y / 2 ^ 9))) (up 20 y)) (y / 2 ^ 44) 0
+
+lin-three : Lin threeOf
+unfolding threeOf num
+lin-three = above lin-zero (above (both (both (both (lup 1 id) (lup 10 id)) (lup 22 id)) (both (lup 41 id) (lup 55 id))) (above (both (both (both (both (down 63 id) (down 54 id)) (down 42 id)) (both (down 23 id) (down 9 id))) (lup 20 id)) (above (down 44 id) lin-zero)))
+
+three-zero : steps 244 0 ≡ steps 180 (threeOf 0)
+unfolding steps step threeOf num over
+three-zero = refl
+
+three-top : steps 244 (2 ^ 63) ≡ steps 180 (threeOf (2 ^ 63))
+unfolding steps step threeOf num over
+three-top = refl
+
+three-falls : T (falls threeOf 63)
+unfolding falls step threeOf num over
+three-falls = tt
+
+three-word : (y : ℕ) → y < 2 ^ 64 → steps 244 y ≡ steps 180 (threeOf y)
+three-word = put-off 180 threeOf lin-three three-falls three-zero three-top
 
 -- where x^135 does
 unfoldable midOf : ℕ → ℕ
@@ -95,7 +148,7 @@ unfolding falls step midOf num over
 mid-falls = tt
 
 mid-word : (y : ℕ) → y < 2 ^ 64 → steps 192 y ≡ steps 128 (midOf y)
-mid-word = agree (steps 192) (λ y. steps 128 (midOf y)) (lin-steps 192) (after (lin-steps 128) lin-mid) 64 (descend (steps 192) (λ y. steps 128 (midOf y)) 63 (down-after 192 down-id) (down-after 128 (down-test 63 midOf mid-falls)) mid-zero mid-top)
+mid-word = put-off 128 midOf lin-mid mid-falls mid-zero mid-top
 
 -- and x^96
 unfoldable nearOf : ℕ → ℕ
@@ -118,7 +171,7 @@ unfolding falls step nearOf num over fifth
 near-falls = tt
 
 near-word : (y : ℕ) → y < 2 ^ 64 → steps 128 y ≡ steps 64 (nearOf y)
-near-word = agree (steps 128) (λ y. steps 64 (nearOf y)) (lin-steps 128) (after (lin-steps 64) lin-near) 64 (descend (steps 128) (λ y. steps 64 (nearOf y)) 63 (down-after 128 down-id) (down-after 64 (down-test 63 nearOf near-falls)) near-zero near-top)
+near-word = put-off 64 nearOf lin-near near-falls near-zero near-top
 
 num-xor : (a b c d e p q r s t : ℕ)
     → bitXor (num a b c d e) (num p q r s t) ≡ num (bitXor a p) (bitXor b q) (bitXor c r) (bitXor d s) (bitXor e t)
@@ -163,6 +216,30 @@ module _ (a b c d e w : ℕ) (l : w < 2 ^ 64) (m : a < 2 ^ 64) where
       subst (Turn 268 w (num a b c d e))
       (num-xor b c d e 0 0 f g h (y / 2 ^ 20) ∙ ap (λ (x : ℕ). num x (bitXor c f) (bitXor d g) (bitXor e h) (y / 2 ^ 20)) (xor-zero-r b))
       (turned 268 a b c d e w (farOf y) (far-word y (xor-lt 64 w a l m)))
+
+  pub with-four-turn : Turn 242 w (num a b c d e)
+      (num b (bitXor c (up 53 (bitXor w a))) (bitXor d (bitXor (bitXor ((bitXor w a) / 2 ^ 11) (up 7 (bitXor w a))) (up 63 (bitXor w a)))) (bitXor e (bitXor (bitXor ((bitXor w a) / 2 ^ 57) ((bitXor w a) / 2 ^ 1)) (bitXor (up 7 (bitXor w a)) (up 18 (bitXor w a))))) (bitXor ((bitXor w a) / 2 ^ 57) ((bitXor w a) / 2 ^ 46)))
+  unfolding fourOf
+  with-four-turn =
+      let y = bitXor w a in
+      let f = (up 53 y) in
+      let g = (bitXor (bitXor (y / 2 ^ 11) (up 7 y)) (up 63 y)) in
+      let h = (bitXor (bitXor (y / 2 ^ 57) (y / 2 ^ 1)) (bitXor (up 7 y) (up 18 y))) in
+      subst (Turn 242 w (num a b c d e))
+      (num-xor b c d e 0 0 f g h (bitXor (y / 2 ^ 57) (y / 2 ^ 46)) ∙ ap (λ (x : ℕ). num x (bitXor c f) (bitXor d g) (bitXor e h) (bitXor (y / 2 ^ 57) (y / 2 ^ 46))) (xor-zero-r b))
+      (turned 242 a b c d e w (fourOf y) (four-word y (xor-lt 64 w a l m)))
+
+  pub with-three-turn : Turn 180 w (num a b c d e)
+      (num b (bitXor c (bitXor (bitXor (bitXor (up 1 (bitXor w a)) (up 10 (bitXor w a))) (up 22 (bitXor w a))) (bitXor (up 41 (bitXor w a)) (up 55 (bitXor w a))))) (bitXor d (bitXor (bitXor (bitXor (bitXor ((bitXor w a) / 2 ^ 63) ((bitXor w a) / 2 ^ 54)) ((bitXor w a) / 2 ^ 42)) (bitXor ((bitXor w a) / 2 ^ 23) ((bitXor w a) / 2 ^ 9))) (up 20 (bitXor w a)))) (bitXor e ((bitXor w a) / 2 ^ 44)) 0)
+  unfolding threeOf
+  with-three-turn =
+      let y = bitXor w a in
+      let f = (bitXor (bitXor (bitXor (up 1 y) (up 10 y)) (up 22 y)) (bitXor (up 41 y) (up 55 y))) in
+      let g = (bitXor (bitXor (bitXor (bitXor (y / 2 ^ 63) (y / 2 ^ 54)) (y / 2 ^ 42)) (bitXor (y / 2 ^ 23) (y / 2 ^ 9))) (up 20 y)) in
+      let h = (y / 2 ^ 44) in
+      subst (Turn 180 w (num a b c d e))
+      (num-xor b c d e 0 0 f g h 0 ∙ ap (λ (x : ℕ). num x (bitXor c f) (bitXor d g) (bitXor e h) 0) (xor-zero-r b))
+      (turned 180 a b c d e w (threeOf y) (three-word y (xor-lt 64 w a l m)))
 
   pub mid-turn : Turn 128 w (num a b c d e)
       (num

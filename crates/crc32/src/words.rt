@@ -62,6 +62,34 @@ fn near(z: Pend, w: u64) -> Pend
     }
 }
 
+// Another: 181, 199, 255, 263 and 274 bits, where four words come after.
+fn with_four(z: Pend, w: u64) -> Pend
+    ensures { λ r. ⌜ Turn 242 w (held z) (held r) ⌝ }
+{
+    let y = w ^ z.a;
+    Pend {
+        a: z.b,
+        b: z.c ^ (y << 53),
+        c: z.d ^ (((y >> 11) ^ (y << 7)) ^ (y << 63)),
+        d: z.e ^ (((y >> 57) ^ (y >> 1)) ^ ((y << 7) ^ (y << 18))),
+        e: (y >> 57) ^ (y >> 46),
+    }
+}
+
+// Another: 129, 138, 150, 169, 183 and 212 bits, where three words come after.
+fn with_three(z: Pend, w: u64) -> Pend
+    ensures { λ r. ⌜ Turn 180 w (held z) (held r) ⌝ }
+{
+    let y = w ^ z.a;
+    Pend {
+        a: z.b,
+        b: z.c ^ (((y << 1) ^ (y << 10) ^ (y << 22)) ^ ((y << 41) ^ (y << 55))),
+        c: z.d ^ (((y >> 63) ^ (y >> 54) ^ (y >> 42)) ^ ((y >> 23) ^ (y >> 9)) ^ (y << 20)),
+        d: z.e ^ (y >> 44),
+        e: 0,
+    }
+}
+
 // Another: 71, 80, 103, 119, 121, 123 and 135 bits, where two words come after.
 fn mid(z: Pend, w: u64) -> Pend
     ensures { λ r. ⌜ Turn 128 w (held z) (held r) ⌝ }
@@ -237,10 +265,18 @@ fn far_at(z: Pend, s: &[u8], i: usize) -> Pend
     far(z, load(s, i))
 }
 
-fn mid_at(z: Pend, s: &[u8], i: usize) -> Pend
+// Where two words come after, or three, or four.
+fn close_at(z: Pend, s: &[u8], i: usize) -> Pend
     requires { ⌜ i + 24 ≤ length (now s) ⌝ }
     ensures { λ r. ⌜ left (now (s .entry)) i (held z) ≡ left (now (s .entry)) (i + 8) (held r) ⌝ }
 {
+    let rest = s.len() - i;
+    if 40 <= rest {
+        return with_four(z, load(s, i));
+    }
+    if 32 <= rest {
+        return with_three(z, load(s, i));
+    }
     mid(z, load(s, i))
 }
 
@@ -367,14 +403,14 @@ fn far_to(from: Pend, s: &[u8], at: usize) -> At
 }
 
 // The words from `at` on, up to the last two.
-fn mid_to(from: Pend, s: &[u8], at: usize) -> At
+fn close_to(from: Pend, s: &[u8], at: usize) -> At
     requires { ⌜ (at + 8 ≤ length (now s)) × ((length (now s) - at) % 8 ≡ 0) ⌝ }
     ensures { λ r. ⌜ (r .i + 8 ≤ length (now (s .entry))) × ((length (now (s .entry)) - r .i) % 8 ≡ 0) × (left (now (s .entry)) at (held from) ≡ left (now (s .entry)) (r .i) (held (r .z))) ⌝ }
 {
     let mut z = from;
     let mut i = at;
     while 24 <= s.len() - i {
-        z = mid_at(z, s, i);
+        z = close_at(z, s, i);
         i += 8;
     }
     At { z, i }
@@ -418,7 +454,7 @@ pub(crate) fn over(register: u32, bytes: &[u8]) -> u32
     let f = far_to(z, bytes, j);
     let y = f.z;
     let k = f.i;
-    let g = mid_to(y, bytes, k);
+    let g = close_to(y, bytes, k);
     let w = g.z;
     let i = g.i;
     let e = n - 8;

@@ -26,8 +26,8 @@ many-requires c κs = search needs
 far-to-requires : tie.Need-far-to-requires
 far-to-requires c κs = search needs
 
-mid-to-requires : tie.Need-mid-to-requires
-mid-to-requires c κs = search needs
+close-to-requires : tie.Need-close-to-requires
+close-to-requires c κs = search needs
 
 sub-e : tie.Need-sub-e
 sub-e c = search needs
@@ -39,13 +39,13 @@ end-requires : tie.Need-end-requires
 end-requires c κs =
     let s = c .before .before .before .before .before .before .before .before .before .before .args .bytes .now in
     let e : left s (length s - 8) (held (c .near-to .result)) ≡ crcOver (c .before .before .before .before .before .before .before .before .before .before .args .register) s =
-    sym (c .before .before .before .before .before .before .many .ensures .2 ∙ c .before .before .before .before .far-to .ensures .2 ∙ c .before .before .mid-to .ensures .2 ∙ c .near-to .ensures) ∙ c .before .before .before .before .before .before .before .start .ensures in
+    sym (c .before .before .before .before .before .before .many .ensures .2 ∙ c .before .before .before .before .far-to .ensures .2 ∙ c .before .before .close-to .ensures .2 ∙ c .near-to .ensures) ∙ c .before .before .before .before .before .before .before .start .ensures in
     (omega arith, rw e (crcOver-lt (c .before .before .before .before .before .before .before .before .before .before .args .register) s (omega (arith, c .before .before .before .before .before .before .before .before .before .before .good)) (λ k. c .before .before .before .before .before .before .before .before .before .shared-slice-known .given k .fits)))
 
 returns-2 : tie.Need-returns-2
 returns-2 c =
     c .end .ensures
-    ∙ sym (c .before .before .before .before .before .before .before .many .ensures .2 ∙ c .before .before .before .before .before .far-to .ensures .2 ∙ c .before .before .before .mid-to .ensures .2 ∙ c .before .near-to .ensures)
+    ∙ sym (c .before .before .before .before .before .before .before .many .ensures .2 ∙ c .before .before .before .before .before .far-to .ensures .2 ∙ c .before .before .before .close-to .ensures .2 ∙ c .before .near-to .ensures)
     ∙ c .before .before .before .before .before .before .before .before .start .ensures
 
 pub over-spec : {M : Type 1} → statement M
@@ -57,7 +57,7 @@ over-spec =
     start-requires
     many-requires
     far-to-requires
-    mid-to-requires
+    close-to-requires
     sub-e
     near-to-requires
     end-requires
