@@ -1,0 +1,74 @@
+/* A night at the kiosk: store eight objects, look one up, free five, release, list what to move.
+ *
+ * It prints document 01's whole run. bindings/c/run builds it and compares. */
+#include <inttypes.h>
+#include <stdio.h>
+#include <stdlib.h>
+
+#include "wentuhoro.h"
+
+enum { IDS = 9, SLOTS = 8, OBJECTS = 8 };
+
+static void granted(const char *call, uint64_t status) {
+    if (status == 0) return;
+    fprintf(stderr, "%s refused: %u, index %" PRIu64 "\n", call, wentuhoro_refusal_number(status), wentuhoro_refusal_index(status));
+    exit(1);
+}
+
+static void expected(bool true_here, const char *what) {
+    if (true_here) return;
+    fprintf(stderr, "not as expected: %s\n", what);
+    exit(1);
+}
+
+/* One slot of slab 0, written and read back. */
+static void write_and_read(void) {
+    const uint8_t object[3] = {1, 2, 3};
+    uint8_t slot[64];
+    uint64_t length = 0;
+    granted("frame_write", wentuhoro_frame_write(slot, sizeof slot, object, sizeof object));
+    granted("frame_read", wentuhoro_frame_read(slot, sizeof slot, &length, 1));
+    expected(length == 3 && slot[2] == 3, "the object is the slot's first three bytes");
+    slot[7] ^= 1;
+    expected(wentuhoro_frame_read(slot, sizeof slot, &length, 1) == WENTUHORO_CHECK_DIFFERS, "a changed bit is seen");
+}
+
+int main(void) {
+    static uint8_t id_marks[IDS], slot_marks[WENTUHORO_SLABS * SLOTS];
+    static uint64_t locations[IDS], owners[WENTUHORO_SLABS * SLOTS], batch[WENTUHORO_BATCH_WORDS], tallies[WENTUHORO_TALLY_WORDS];
+    struct wentuhoro_store store = {IDS, SLOTS, id_marks, locations, slot_marks, owners, batch, tallies};
+    write_and_read();
+
+    granted("fresh", wentuhoro_store_fresh(&store));
+    uint64_t ids[OBJECTS], lengths[OBJECTS], placed[OBJECTS];
+    bool stores[OBJECTS];
+    for (size_t i = 0; i < OBJECTS; i++) {
+        granted("new_id", wentuhoro_store_new_id(&store, &ids[i]));
+        stores[i] = true;
+        lengths[i] = 3;
+    }
+    granted("offer", wentuhoro_store_offer(&store, OBJECTS, ids, stores, lengths, placed));
+    /* Here a program writes its slots. Where a write fails it calls wentuhoro_store_abandon, and the batch has left no trace. */
+    granted("commit", wentuhoro_store_commit(&store));
+
+    uint64_t location;
+    granted("lookup", wentuhoro_store_lookup(&store, 6, &location));
+    expected(location == placed[5], "object 6 lies where the offer placed it");
+
+    const uint64_t freed[] = {1, 2, 3, 5, 7};
+    const bool none[5] = {false, false, false, false, false};
+    const uint64_t zeros[5] = {0, 0, 0, 0, 0};
+    granted("offer", wentuhoro_store_offer(&store, 5, freed, none, zeros, placed));
+    granted("commit", wentuhoro_store_commit(&store));
+    granted("release", wentuhoro_store_release(&store));
+    expected(wentuhoro_refusal_number(wentuhoro_store_lookup(&store, 1, &location)) == WENTUHORO_NO_SUCH_ID, "object 1 is gone");
+
+    uint64_t moved[IDS - 1], from[IDS - 1], count, address[3];
+    granted("defrag", wentuhoro_store_defrag(&store, 0.75f, moved, from, &count));
+    puts("slab slot id");
+    for (uint64_t row = 0; row < count; row++) {
+        granted("unpack", wentuhoro_unpack(SLOTS, from[row], address, 3));
+        printf("%" PRIu64 " %" PRIu64 " %" PRIu64 "\n", address[1], address[2], moved[row]);
+    }
+    return 0;
+}

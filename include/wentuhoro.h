@@ -1,0 +1,278 @@
+/* Wentuhoro for C99 and C++: the calls of libexports.a.
+ *
+ * Each call answers a status: 0 where it is granted, else the refusal's number plus 256 times its index. A refusal writes nothing.
+ *
+ * A slice passes as a pointer and a length. A pointer is aligned for its type and never NULL, also where the length is 0; slices that a
+ * call writes overlap no other slice of that call. Anything else has an answer: any length, any contents, any number.
+ *
+ * Values come back in a slice of exactly so many words ("One value: ..."); a slice of another length is refused with 1.
+ *
+ * Each call below has the refusals that it gives, in the order in which it looks for them. The index counts from 0: it is the update's
+ * where a refusal is given per update, the row's where per row, the slab's for an offer's 10, and 0 elsewhere.
+ *
+ * A program that holds its tables in a struct wentuhoro_store uses the wentuhoro_store_ functions at the end, which pass the twelve
+ * pointers and lengths.
+ */
+#ifndef WENTUHORO_H
+#define WENTUHORO_H
+
+#include <stdbool.h>
+#include <stddef.h>
+#include <stdint.h>
+
+#ifdef __cplusplus
+extern "C" {
+#endif
+
+/* ---- Refusals */
+
+enum wentuhoro_refusal {
+    WENTUHORO_WRONG_SHAPE = 1,         /* a lent slice or a capacity has a wrong length or value */
+    WENTUHORO_TOO_LARGE = 2,           /* an object beyond the largest class */
+    WENTUHORO_OUT_OF_RANGE = 3,        /* a slab, slot or packed location out of range */
+    WENTUHORO_CHECK_DIFFERS = 4,       /* the check differs */
+    WENTUHORO_TOO_LONG = 5,            /* a stored length, or an object to be written, beyond the room of its slot */
+    WENTUHORO_UNKNOWN_VERSION = 6,     /* a cookie version that is not 1 */
+    WENTUHORO_FANOUT_DIFFERS = 7,      /* the fanout differs */
+    WENTUHORO_NO_SUCH_ID = 8,          /* id 0, at or past capacity, not held, or (lookup) without location */
+    WENTUHORO_REPEATED_ID = 9,         /* the id of an earlier update of the batch, or of an earlier rebuild row */
+    WENTUHORO_NONE_FREE = 10,          /* no free number */
+    WENTUHORO_BATCH_OPEN = 11,         /* a batch is open */
+    WENTUHORO_NO_BATCH = 12,           /* none is open */
+    WENTUHORO_TABLES_DISAGREE = 13,    /* the tables contradict each other, or a kept batch is none */
+    WENTUHORO_RATIO_OUT_OF_RANGE = 14, /* a fill ratio or a target t out of range */
+    WENTUHORO_TOO_MANY = 15,           /* over 256 updates */
+    WENTUHORO_REPEATED_LOCATION = 16,  /* a rebuild row has an earlier row's location */
+    WENTUHORO_NOTHING_TO_CUT = 17      /* a cut reported where the test says keep */
+};
+
+/* 0 for a status that grants, else one of the numbers above. */
+static inline unsigned wentuhoro_refusal_number(uint64_t status) { return (unsigned)(status % 256); }
+
+static inline uint64_t wentuhoro_refusal_index(uint64_t status) { return status / 256; }
+
+/* ---- Sizes of slabs and tables */
+
+#define WENTUHORO_SLABS 78
+#define WENTUHORO_LARGEST_SLOT 65535
+#define WENTUHORO_MOST_IDS 65536   /* id capacity: 2 to this; ids run from 1 to capacity - 1 */
+#define WENTUHORO_MOST_SLOTS 65536 /* slot capacity, the same in every slab: 1 to this */
+#define WENTUHORO_MOST_UPDATES 256
+#define WENTUHORO_COOKIE_BYTES 64
+
+/* The six tables: id_marks and locations have one entry an id, slot_marks and owners one a slot, slab after slab. */
+#define WENTUHORO_ALLOCATORS 79 /* the ids', then each slab's */
+#define WENTUHORO_BATCH_WORDS 513
+#define WENTUHORO_TALLY_WORDS 473
+
+static inline size_t wentuhoro_all_slots(size_t slots) { return WENTUHORO_SLABS * slots; }
+
+/* The bytes of a slot of this slab; 0 where there is no such slab. */
+static inline uint64_t wentuhoro_slab_size(size_t slab) {
+    static const uint64_t sizes[WENTUHORO_SLABS] = {
+        64, 80, 96, 112, 128, 160, 192, 224, 256, 320, 384, 448, 512, 640, 768, 896, 1024, 1280, 1536, 1792, 2048, 2560, 3072, 3584, 4096,
+        5120, 6144, 7168, 8192, 10240, 12288, 14336, 16384, 20480, 24576, 28672, 32768, 40960, 49152, 57344, 65536, 98304, 131072, 163840,
+        196608, 262144, 393216, 524288, 786432, 1048576, 1572864, 2097152, 3145728, 4194304, 6291456, 8388608, 12582912, 16777216,
+        25165824, 33554432, 50331648, 67108864, 100663296, 134217728, 201326592, 268435456, 402653184, 536870912, 805306368, 1073741824,
+        1610612736, 2147483648, 3221225472u, 4294967296u, 6442450944u, 8589934592u, 12884901888u, 17179869184u,
+    };
+    return slab < WENTUHORO_SLABS ? sizes[slab] : 0;
+}
+
+/* ---- Classes, checks, frames, cookies, addresses */
+
+/* One value: the slab for an object of n bytes. Refuses: 2. */
+uint64_t wentuhoro_class(uint64_t n, uint64_t *slab, size_t slab_len);
+
+/* The CRC-32 of ISO 3309. */
+uint32_t wentuhoro_crc32(const uint8_t *bytes, size_t bytes_len);
+
+/* The register after more bytes. It starts at FFFFFFFF and is complemented at the end. */
+uint32_t wentuhoro_crc32_update(uint32_t register_, const uint8_t *bytes, size_t bytes_len);
+
+/* Writes an object into a slot: the object, zeros, its length, the check. Refuses: 1, 5. */
+uint64_t wentuhoro_frame_write(uint8_t *slot, size_t slot_len, const uint8_t *object, size_t object_len);
+
+/* One value: the length of the object, which is the slot's own first bytes. Refuses: 1, 4, 5. */
+uint64_t wentuhoro_frame_read(const uint8_t *slot, size_t slot_len, uint64_t *length, size_t length_len);
+
+/* Writes a settings cookie of 64 bytes. Refuses: 1. */
+uint64_t wentuhoro_cookie_write(uint64_t leaf_fanout, uint8_t *cookie, size_t cookie_len);
+
+/* One value: the fanout in a cookie of 64 bytes or more. Refuses: 1, 4, 6. */
+uint64_t wentuhoro_cookie_read(const uint8_t *cookie, size_t cookie_len, uint64_t *leaf_fanout, size_t leaf_fanout_len);
+
+/* Whether a cookie was written with this fanout. Refuses: 1, 4, 6, 7. */
+uint64_t wentuhoro_cookie_verify(const uint8_t *cookie, size_t cookie_len, uint64_t leaf_fanout);
+
+/* One value: the packed location (slab + 1) * 2^56 + slot, which is never 0. Refuses: 1, 3. */
+uint64_t wentuhoro_pack(size_t slots, size_t slab, size_t slot, uint64_t *location, size_t location_len);
+
+/* Three values: 1, slab, slot; or three zeros for a location of 0, no object. Refuses: 1, 3. */
+uint64_t wentuhoro_unpack(size_t slots, uint64_t location, uint64_t *address, size_t address_len);
+
+/* ---- The store. Every call takes the capacities and those of the six tables that it uses. */
+
+/* A store that holds nothing; writes every word of the six tables. Refuses: 1. */
+uint64_t wentuhoro_fresh(size_t ids, size_t slots, uint8_t *id_marks, size_t id_marks_len, uint64_t *locations, size_t locations_len,
+                         uint8_t *slot_marks, size_t slot_marks_len, uint64_t *owners, size_t owners_len, uint64_t *batch,
+                         size_t batch_len, uint64_t *tallies, size_t tallies_len);
+
+/* A store that holds the rows' ids and slots and nothing else, rows in any order; writes every word of the six tables.
+ * Refuses: 1, then for each row 8 (range only), 9, 3, 16. */
+uint64_t wentuhoro_rebuild(size_t ids, size_t slots, uint8_t *id_marks, size_t id_marks_len, uint64_t *locations, size_t locations_len,
+                           uint8_t *slot_marks, size_t slot_marks_len, uint64_t *owners, size_t owners_len, uint64_t *batch,
+                           size_t batch_len, uint64_t *tallies, size_t tallies_len, const uint64_t *row_ids, size_t row_ids_len,
+                           const uint64_t *row_locations, size_t row_locations_len);
+
+/* One value: the smallest free id above 0, held from now on. Writes id_marks and tallies. Refuses: 1, 11, 10. */
+uint64_t wentuhoro_new_id(size_t ids, size_t slots, uint8_t *id_marks, size_t id_marks_len, const uint64_t *batch, size_t batch_len,
+                          uint64_t *tallies, size_t tallies_len, uint64_t *id, size_t id_len);
+
+/* One value: the packed location of an object. Refuses: 1, 8, 13. */
+uint64_t wentuhoro_lookup(size_t ids, size_t slots, const uint8_t *id_marks, size_t id_marks_len, const uint64_t *locations,
+                          size_t locations_len, const uint8_t *slot_marks, size_t slot_marks_len, const uint64_t *owners,
+                          size_t owners_len, const uint64_t *tallies, size_t tallies_len, uint64_t id, uint64_t *location,
+                          size_t location_len);
+
+/* Takes the smallest free slot for each Store of a batch, in list order, and keeps the batch. Update i stores an object of lengths[i]
+ * bytes as update_ids[i] where stores[i], else it frees that id. All four lists have one row an update; placed gets the packed
+ * locations, 0 for a Free. Writes slot_marks, batch, tallies and placed.
+ * Refuses: 1, 11, 15, then for each update 8, 9, 2, 13, then 10 with the lowest slab that has too few free slots. */
+uint64_t wentuhoro_offer(size_t ids, size_t slots, const uint8_t *id_marks, size_t id_marks_len, const uint64_t *locations,
+                         size_t locations_len, uint8_t *slot_marks, size_t slot_marks_len, const uint64_t *owners, size_t owners_len,
+                         uint64_t *batch, size_t batch_len, uint64_t *tallies, size_t tallies_len, const uint64_t *update_ids,
+                         size_t update_ids_len, const bool *stores, size_t stores_len, const uint64_t *lengths, size_t lengths_len,
+                         uint64_t *placed, size_t placed_len);
+
+/* The open batch takes effect. What falls free by it is pending until a release. Writes the six tables. Refuses: 1, 12, 13. */
+uint64_t wentuhoro_commit(size_t ids, size_t slots, uint8_t *id_marks, size_t id_marks_len, uint64_t *locations, size_t locations_len,
+                          uint8_t *slot_marks, size_t slot_marks_len, uint64_t *owners, size_t owners_len, uint64_t *batch,
+                          size_t batch_len, uint64_t *tallies, size_t tallies_len);
+
+/* The open batch is dropped, and the slots that it took are free again. Writes slot_marks, batch and tallies. Refuses: 1, 12, 13. */
+uint64_t wentuhoro_abandon(size_t ids, size_t slots, uint8_t *slot_marks, size_t slot_marks_len, uint64_t *batch, size_t batch_len,
+                           uint64_t *tallies, size_t tallies_len);
+
+/* Every pending id and slot becomes free. Writes id_marks, slot_marks and tallies. Refuses: 1, 11. */
+uint64_t wentuhoro_release(size_t ids, size_t slots, uint8_t *id_marks, size_t id_marks_len, uint8_t *slot_marks, size_t slot_marks_len,
+                           const uint64_t *batch, size_t batch_len, uint64_t *tallies, size_t tallies_len);
+
+/* Four values: ids granted, ids freed, slots granted, slots freed, since fresh or rebuild. Refuses: 1. */
+uint64_t wentuhoro_stats(size_t ids, size_t slots, const uint64_t *tallies, size_t tallies_len, uint64_t *sums, size_t sums_len);
+
+/* What each allocator has granted and freed: the ids', then each slab's, 79 rows in both lists. Refuses: 1. */
+uint64_t wentuhoro_counters(size_t ids, size_t slots, const uint64_t *tallies, size_t tallies_len, uint64_t *granted, size_t granted_len,
+                            uint64_t *freed, size_t freed_len);
+
+/* The objects to move so that slabs are filled to this ratio (above 0, at most 1), by slab, then slot: in the first rows of two lists of
+ * ids - 1 rows. One value: how many rows. Refuses: 1, 11, 14. */
+uint64_t wentuhoro_defrag(size_t ids, size_t slots, const uint64_t *locations, size_t locations_len, const uint8_t *slot_marks,
+                          size_t slot_marks_len, const uint64_t *owners, size_t owners_len, const uint64_t *batch, size_t batch_len,
+                          const uint64_t *tallies, size_t tallies_len, float ratio, uint64_t *moved_ids, size_t moved_ids_len,
+                          uint64_t *moved_locations, size_t moved_locations_len, uint64_t *count, size_t count_len);
+
+/* Whether a slab's file is cut, for a target t of 1 to 86 (sled's is 80). Three values: 1, the length to cut it to, the bytes given back;
+ * or three zeros to keep it. Writes tallies: the slab's high mark. Refuses: 1, 11, 3, 14. */
+uint64_t wentuhoro_truncation(size_t ids, size_t slots, const uint8_t *slot_marks, size_t slot_marks_len, const uint64_t *batch,
+                              size_t batch_len, uint64_t *tallies, size_t tallies_len, uint64_t slab, uint64_t t, uint64_t *cut,
+                              size_t cut_len);
+
+/* A slab's file was cut. Writes tallies: the slab's high mark. Refuses: 1, 11, 3, 14, 17. */
+uint64_t wentuhoro_cut_done(size_t ids, size_t slots, const uint8_t *slot_marks, size_t slot_marks_len, const uint64_t *batch,
+                            size_t batch_len, uint64_t *tallies, size_t tallies_len, uint64_t slab, uint64_t t);
+
+/* ---- One store as one thing */
+
+/* The caller owns the memory: ids, ids, 78 * slots, 78 * slots, 513 and 473 entries. What they hold before the first fresh or rebuild
+ * does not matter. */
+struct wentuhoro_store {
+    size_t ids;
+    size_t slots;
+    uint8_t *id_marks;
+    uint64_t *locations;
+    uint8_t *slot_marks;
+    uint64_t *owners;
+    uint64_t *batch;
+    uint64_t *tallies;
+};
+
+/* Each function below is the call of that name on the store's tables, with the refusals given there. */
+
+static inline uint64_t wentuhoro_store_fresh(struct wentuhoro_store *s) {
+    return wentuhoro_fresh(s->ids, s->slots, s->id_marks, s->ids, s->locations, s->ids, s->slot_marks, wentuhoro_all_slots(s->slots),
+                           s->owners, wentuhoro_all_slots(s->slots), s->batch, WENTUHORO_BATCH_WORDS, s->tallies, WENTUHORO_TALLY_WORDS);
+}
+
+static inline uint64_t wentuhoro_store_rebuild(struct wentuhoro_store *s, size_t rows, const uint64_t *row_ids,
+                                               const uint64_t *row_locations) {
+    return wentuhoro_rebuild(s->ids, s->slots, s->id_marks, s->ids, s->locations, s->ids, s->slot_marks, wentuhoro_all_slots(s->slots),
+                             s->owners, wentuhoro_all_slots(s->slots), s->batch, WENTUHORO_BATCH_WORDS, s->tallies,
+                             WENTUHORO_TALLY_WORDS, row_ids, rows, row_locations, rows);
+}
+
+static inline uint64_t wentuhoro_store_new_id(struct wentuhoro_store *s, uint64_t *id) {
+    return wentuhoro_new_id(s->ids, s->slots, s->id_marks, s->ids, s->batch, WENTUHORO_BATCH_WORDS, s->tallies, WENTUHORO_TALLY_WORDS, id,
+                            1);
+}
+
+static inline uint64_t wentuhoro_store_lookup(const struct wentuhoro_store *s, uint64_t id, uint64_t *location) {
+    return wentuhoro_lookup(s->ids, s->slots, s->id_marks, s->ids, s->locations, s->ids, s->slot_marks, wentuhoro_all_slots(s->slots),
+                            s->owners, wentuhoro_all_slots(s->slots), s->tallies, WENTUHORO_TALLY_WORDS, id, location, 1);
+}
+
+static inline uint64_t wentuhoro_store_offer(struct wentuhoro_store *s, size_t updates, const uint64_t *update_ids, const bool *stores,
+                                             const uint64_t *lengths, uint64_t *placed) {
+    return wentuhoro_offer(s->ids, s->slots, s->id_marks, s->ids, s->locations, s->ids, s->slot_marks, wentuhoro_all_slots(s->slots),
+                           s->owners, wentuhoro_all_slots(s->slots), s->batch, WENTUHORO_BATCH_WORDS, s->tallies, WENTUHORO_TALLY_WORDS,
+                           update_ids, updates, stores, updates, lengths, updates, placed, updates);
+}
+
+static inline uint64_t wentuhoro_store_commit(struct wentuhoro_store *s) {
+    return wentuhoro_commit(s->ids, s->slots, s->id_marks, s->ids, s->locations, s->ids, s->slot_marks, wentuhoro_all_slots(s->slots),
+                            s->owners, wentuhoro_all_slots(s->slots), s->batch, WENTUHORO_BATCH_WORDS, s->tallies, WENTUHORO_TALLY_WORDS);
+}
+
+static inline uint64_t wentuhoro_store_abandon(struct wentuhoro_store *s) {
+    return wentuhoro_abandon(s->ids, s->slots, s->slot_marks, wentuhoro_all_slots(s->slots), s->batch, WENTUHORO_BATCH_WORDS, s->tallies,
+                             WENTUHORO_TALLY_WORDS);
+}
+
+static inline uint64_t wentuhoro_store_release(struct wentuhoro_store *s) {
+    return wentuhoro_release(s->ids, s->slots, s->id_marks, s->ids, s->slot_marks, wentuhoro_all_slots(s->slots), s->batch,
+                             WENTUHORO_BATCH_WORDS, s->tallies, WENTUHORO_TALLY_WORDS);
+}
+
+static inline uint64_t wentuhoro_store_stats(const struct wentuhoro_store *s, uint64_t sums[4]) {
+    return wentuhoro_stats(s->ids, s->slots, s->tallies, WENTUHORO_TALLY_WORDS, sums, 4);
+}
+
+static inline uint64_t wentuhoro_store_counters(const struct wentuhoro_store *s, uint64_t granted[WENTUHORO_ALLOCATORS],
+                                                uint64_t freed[WENTUHORO_ALLOCATORS]) {
+    return wentuhoro_counters(s->ids, s->slots, s->tallies, WENTUHORO_TALLY_WORDS, granted, WENTUHORO_ALLOCATORS, freed,
+                              WENTUHORO_ALLOCATORS);
+}
+
+/* Both lists have ids - 1 rows. */
+static inline uint64_t wentuhoro_store_defrag(const struct wentuhoro_store *s, float ratio, uint64_t *moved_ids, uint64_t *moved_locations,
+                                              uint64_t *count) {
+    return wentuhoro_defrag(s->ids, s->slots, s->locations, s->ids, s->slot_marks, wentuhoro_all_slots(s->slots), s->owners,
+                            wentuhoro_all_slots(s->slots), s->batch, WENTUHORO_BATCH_WORDS, s->tallies, WENTUHORO_TALLY_WORDS, ratio,
+                            moved_ids, s->ids - 1, moved_locations, s->ids - 1, count, 1);
+}
+
+static inline uint64_t wentuhoro_store_truncation(struct wentuhoro_store *s, uint64_t slab, uint64_t t, uint64_t cut[3]) {
+    return wentuhoro_truncation(s->ids, s->slots, s->slot_marks, wentuhoro_all_slots(s->slots), s->batch, WENTUHORO_BATCH_WORDS,
+                                s->tallies, WENTUHORO_TALLY_WORDS, slab, t, cut, 3);
+}
+
+static inline uint64_t wentuhoro_store_cut_done(struct wentuhoro_store *s, uint64_t slab, uint64_t t) {
+    return wentuhoro_cut_done(s->ids, s->slots, s->slot_marks, wentuhoro_all_slots(s->slots), s->batch, WENTUHORO_BATCH_WORDS, s->tallies,
+                              WENTUHORO_TALLY_WORDS, slab, t);
+}
+
+#ifdef __cplusplus
+}
+#endif
+
+#endif
