@@ -1,0 +1,43 @@
+//! Wentuhoro: a proved store. Placement is a function of the calls alone, so that a machine shows the same face every morning.
+//!
+//! The work is done by `libexports.a`, every function of which is proved to meet its contract; this crate lends it its tables and gives
+//! its answers Rust's types. A refusal has the number of document 01's table and changes nothing.
+//!
+//! ```
+//! use wentuhoro::{Store, Update};
+//!
+//! // At most 8 objects, at most 8 slots in each slab.
+//! let mut store = Store::new(9, 8)?;
+//! let ids: Vec<u64> = (0..8).map(|_| store.allocate_object_id()).collect::<Result<_, _>>()?;
+//!
+//! // Slots are taken in list order. The caller writes them, then commits; or abandons, and the batch has left no trace.
+//! let batch: Vec<Update> = ids.iter().map(|&id| Update::Store { id, length: 3 }).collect();
+//! let placed = store.offer(&batch)?;
+//! store.commit()?;
+//! assert_eq!(store.get_location_for_object(6)?, placed[5].unwrap());
+//!
+//! // What is freed is pending until a release, so that a reader's slot is not overwritten under it.
+//! store.offer(&[1, 2, 3, 5, 7].map(|id| Update::Free { id }))?;
+//! store.commit()?;
+//! store.release()?;
+//!
+//! let moved: Vec<(u64, usize, usize)> =
+//!     store.objects_to_defrag(0.75)?.iter().map(|(id, at)| (*id, at.slab(), at.slot())).collect();
+//! assert_eq!(moved, [(6, 0, 5), (8, 0, 7)]);
+//! # Ok::<(), wentuhoro::Refusal>(())
+//! ```
+//!
+//! Beside the store: [`slab_for_size`] and [`SLAB_SIZES`], [`Slab`] for an object in its slot, [`crc32`], [`PersistentSettings`] for the
+//! settings cookie, [`SlabAddress`] for a slab and a slot. [`raw`] has the exported calls as they are.
+mod address;
+pub mod raw;
+mod refusal;
+mod settings;
+mod slab;
+mod store;
+
+pub use address::SlabAddress;
+pub use refusal::{Refusal, RefusalKind};
+pub use settings::PersistentSettings;
+pub use slab::{crc32, crc32_update, slab_for_size, Slab, SLAB_SIZES};
+pub use store::{AllocatorStats, Cut, Store, Update};

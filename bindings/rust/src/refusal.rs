@@ -1,0 +1,109 @@
+use std::fmt;
+
+/// Why a call was refused, and which update, row or slab it speaks of. A refused call has changed nothing.
+///
+/// ```
+/// use wentuhoro::{RefusalKind, Store, Update};
+///
+/// let mut store = Store::new(3, 8)?;
+/// let id = store.allocate_object_id()?;
+/// let refusal = store.offer(&[Update::Store { id, length: 3 }, Update::Free { id }]).unwrap_err();
+/// assert_eq!((refusal.kind, refusal.index), (RefusalKind::RepeatedId, 1));
+/// assert_eq!(refusal.kind.number(), 9);
+/// # Ok::<(), wentuhoro::Refusal>(())
+/// ```
+#[derive(Clone, Copy, Debug, PartialEq, Eq, Hash)]
+pub struct Refusal {
+    pub kind: RefusalKind,
+    /// From 0: the update's where the refusal is given per update, the row's where per row, the slab's for a batch that finds too few free
+    /// slots, and 0 elsewhere.
+    pub index: usize,
+}
+
+/// Document 01's table of refusals.
+#[derive(Clone, Copy, Debug, PartialEq, Eq, Hash, PartialOrd, Ord)]
+#[repr(u8)]
+pub enum RefusalKind {
+    /// A lent slice or a capacity has a wrong length or value.
+    WrongShape = 1,
+    /// An object beyond the largest class.
+    TooLarge = 2,
+    /// A slab, slot or packed location out of range.
+    OutOfRange = 3,
+    /// The check differs.
+    CheckDiffers = 4,
+    /// A stored length, or an object to be written, beyond the room of its slot.
+    TooLong = 5,
+    /// A cookie version that is not 1.
+    UnknownVersion = 6,
+    /// The fanout differs.
+    FanoutDiffers = 7,
+    /// Id 0, at or past capacity, not held, or (lookup) without location.
+    NoSuchId = 8,
+    /// The id of an earlier update of the batch, or of an earlier rebuild row.
+    RepeatedId = 9,
+    /// No free number.
+    NoneFree = 10,
+    /// A batch is open.
+    BatchOpen = 11,
+    /// None is open.
+    NoBatch = 12,
+    /// The tables contradict each other. No call of [`Store`](crate::Store) leaves them so.
+    TablesDisagree = 13,
+    /// A fill ratio or a target t out of range.
+    RatioOutOfRange = 14,
+    /// Over 256 updates.
+    TooMany = 15,
+    /// A rebuild row has an earlier row's location.
+    RepeatedLocation = 16,
+    /// A cut reported where the test says keep.
+    NothingToCut = 17,
+}
+
+impl RefusalKind {
+    const ALL: [RefusalKind; 17] = {
+        use RefusalKind::*;
+        [
+            WrongShape, TooLarge, OutOfRange, CheckDiffers, TooLong, UnknownVersion, FanoutDiffers, NoSuchId, RepeatedId, NoneFree,
+            BatchOpen, NoBatch, TablesDisagree, RatioOutOfRange, TooMany, RepeatedLocation, NothingToCut,
+        ]
+    };
+
+    /// The number of document 01's table.
+    pub fn number(self) -> u8 {
+        self as u8
+    }
+}
+
+impl Refusal {
+    /// What a call's status says: 0 grants; else the number plus 256 times the index.
+    pub(crate) fn unless_granted(status: u64) -> Result<(), Refusal> {
+        if status == 0 {
+            return Ok(());
+        }
+        let number = (status % 256) as usize;
+        Err(Refusal { kind: RefusalKind::ALL[number - 1], index: (status / 256) as usize })
+    }
+}
+
+impl fmt::Display for Refusal {
+    fn fmt(&self, f: &mut fmt::Formatter<'_>) -> fmt::Result {
+        write!(f, "refused with {} ({:?}), index {}", self.kind.number(), self.kind, self.index)
+    }
+}
+
+impl std::error::Error for Refusal {}
+
+#[cfg(test)]
+mod tests {
+    use super::*;
+
+    #[test]
+    fn numbers_are_the_tables() {
+        for (at, kind) in RefusalKind::ALL.into_iter().enumerate() {
+            assert_eq!(usize::from(kind.number()), at + 1);
+        }
+        assert_eq!(Refusal::unless_granted(0), Ok(()));
+        assert_eq!(Refusal::unless_granted(2 * 256 + 9), Err(Refusal { kind: RefusalKind::RepeatedId, index: 2 }));
+    }
+}

@@ -1,0 +1,275 @@
+use crate::{raw, Refusal, SlabAddress};
+
+const BATCH_WORDS: usize = 513;
+const TALLY_WORDS: usize = 473;
+const ALLOCATORS: usize = 79;
+
+/// The store: which ids and slots are free, held or pending, and where each object lies.
+///
+/// It owns the tables that the library is lent; [`Clone`] copies them. Calls have sled's names where the thing is the same.
+#[derive(Clone, Debug)]
+pub struct Store {
+    ids: usize,
+    slots: usize,
+    id_marks: Box<[u8]>,
+    locations: Box<[u64]>,
+    slot_marks: Box<[u8]>,
+    owners: Box<[u64]>,
+    batch: Box<[u64]>,
+    tallies: Box<[u64]>,
+}
+
+/// One update of a batch.
+#[derive(Clone, Copy, Debug, PartialEq, Eq, Hash)]
+pub enum Update {
+    /// An object of so many bytes takes a slot and becomes this id's.
+    Store { id: u64, length: u64 },
+    /// The id and the slot that it has, if any, are given up.
+    Free { id: u64 },
+}
+
+/// What was granted and freed since fresh or rebuild: ids, then slots of all slabs.
+#[derive(Clone, Copy, Debug, Default, PartialEq, Eq, Hash)]
+pub struct AllocatorStats {
+    pub objects_allocated: u64,
+    pub objects_freed: u64,
+    pub heap_slots_allocated: u64,
+    pub heap_slots_freed: u64,
+}
+
+/// The length that a slab's file is to be cut to, and the bytes that this gives back.
+#[derive(Clone, Copy, Debug, PartialEq, Eq, Hash)]
+pub struct Cut {
+    pub length: u64,
+    pub given_back: u64,
+}
+
+/// Makes a call on the store's tables, each passed as a pointer and a length, then the call's own words.
+macro_rules! lend {
+    ($store:ident, $call:ident: $($how:ident $table:ident),* $(; $($word:expr),*)?) => {
+        // The tables are six boxes, so none overlaps another; what is passed beside them is a local's.
+        Refusal::unless_granted(unsafe {
+            raw::$call($store.ids, $store.slots, $(pointer!($how $store $table), $store.$table.len(),)* $($($word),*)?)
+        })
+    };
+}
+
+macro_rules! pointer {
+    (reads $store:ident $table:ident) => { $store.$table.as_ptr() };
+    (writes $store:ident $table:ident) => { $store.$table.as_mut_ptr() };
+}
+
+impl Store {
+    /// A fresh store for ids 1 to `ids - 1` and `slots` slots in each slab. Refuses capacities other than 2 to 65,536 ids and 1 to 65,536
+    /// slots with 1.
+    pub fn new(ids: usize, slots: usize) -> Result<Store, Refusal> {
+        let tallies = vec![0; TALLY_WORDS].into_boxed_slice();
+        // The library judges the capacities before tables of that size are made.
+        Refusal::unless_granted(unsafe { raw::wentuhoro_stats(ids, slots, tallies.as_ptr(), tallies.len(), [0; 4].as_mut_ptr(), 4) })?;
+        let all_slots = SlabAddress::SLABS * slots;
+        let mut store = Store {
+            ids,
+            slots,
+            id_marks: vec![0; ids].into(),
+            locations: vec![0; ids].into(),
+            slot_marks: vec![0; all_slots].into(),
+            owners: vec![0; all_slots].into(),
+            batch: vec![0; BATCH_WORDS].into(),
+            tallies,
+        };
+        store.fresh();
+        Ok(store)
+    }
+
+    /// The id capacity.
+    pub fn ids(&self) -> usize {
+        self.ids
+    }
+
+    /// The slot capacity, the same in every slab.
+    pub fn slots(&self) -> usize {
+        self.slots
+    }
+
+    /// Holds nothing from now on. A batch that was open is gone.
+    pub fn fresh(&mut self) {
+        lend!(self, wentuhoro_fresh: writes id_marks, writes locations, writes slot_marks, writes owners, writes batch, writes tallies)
+            .expect("the tables have their lengths");
+    }
+
+    /// Holds these ids and slots from now on, and nothing else. A batch that was open is gone; counters and high marks are 0.
+    ///
+    /// Refuses with 1, then for each row an id out of range with 8, a repeated one with 9, a slot past the capacity with 3, a repeated
+    /// location with 16.
+    ///
+    /// ```
+    /// # use wentuhoro::{Store, Update};
+    /// # let mut store = Store::new(9, 8)?;
+    /// # let id = store.allocate_object_id()?;
+    /// # store.offer(&[Update::Store { id, length: 100 }])?;
+    /// # store.commit()?;
+    /// // On another machine: every later id, slot, refusal and defrag list is the same.
+    /// let mut copy = Store::new(store.ids(), store.slots())?;
+    /// copy.rebuild(&store.live())?;
+    /// assert_eq!(copy.allocate_object_id()?, store.allocate_object_id()?);
+    /// # Ok::<(), wentuhoro::Refusal>(())
+    /// ```
+    pub fn rebuild(&mut self, rows: &[(u64, SlabAddress)]) -> Result<(), Refusal> {
+        let (ids, locations): (Vec<u64>, Vec<u64>) = rows.iter().map(|(id, at)| (*id, at.packed())).unzip();
+        lend!(
+            self,
+            wentuhoro_rebuild: writes id_marks, writes locations, writes slot_marks, writes owners, writes batch, writes tallies;
+            ids.as_ptr(),
+            ids.len(),
+            locations.as_ptr(),
+            locations.len()
+        )
+    }
+
+    /// The rows for a [`rebuild`](Self::rebuild): each id that has a location, in order. A rebuild from them gives every later answer as
+    /// if it had not been made, counters and truncation excepted, where no batch is open, nothing is pending and every id is stored.
+    pub fn live(&self) -> Vec<(u64, SlabAddress)> {
+        (1..self.ids as u64).filter_map(|id| Some((id, self.get_location_for_object(id).ok()?))).collect()
+    }
+
+    /// The smallest free id above 0, held from now on. Refuses while a batch is open with 11, where none is free with 10.
+    pub fn allocate_object_id(&mut self) -> Result<u64, Refusal> {
+        let mut id = 0;
+        lend!(self, wentuhoro_new_id: writes id_marks, reads batch, writes tallies; &mut id, 1)?;
+        Ok(id)
+    }
+
+    /// Refuses an id that is not held or has no location with 8.
+    pub fn get_location_for_object(&self, id: u64) -> Result<SlabAddress, Refusal> {
+        let mut location = 0;
+        lend!(self, wentuhoro_lookup: reads id_marks, reads locations, reads slot_marks, reads owners, reads tallies; id, &mut location, 1)?;
+        Ok(SlabAddress::of(location).expect("a granted lookup has a location"))
+    }
+
+    /// Opens a batch: takes the smallest free slot for each Store, in list order. The answer has a location for each update, none for a
+    /// Free. The caller writes the slots, then calls [`commit`](Self::commit) or [`abandon`](Self::abandon).
+    ///
+    /// Refuses while a batch is open with 11, over 256 updates with 15; an update of an id that is not held with 8, of an earlier update's
+    /// id with 9, of too large an object with 2; and with 10, index of the slab, where a slab has too few free slots.
+    pub fn offer(&mut self, updates: &[Update]) -> Result<Vec<Option<SlabAddress>>, Refusal> {
+        let count = updates.len();
+        let ids: Vec<u64> = updates.iter().map(|update| update.id()).collect();
+        let stores: Vec<bool> = updates.iter().map(|update| matches!(update, Update::Store { .. })).collect();
+        let lengths: Vec<u64> = updates.iter().map(|update| update.length()).collect();
+        let mut placed = vec![0; count];
+        lend!(
+            self,
+            wentuhoro_offer: reads id_marks, reads locations, writes slot_marks, reads owners, writes batch, writes tallies;
+            ids.as_ptr(),
+            count,
+            stores.as_ptr(),
+            count,
+            lengths.as_ptr(),
+            count,
+            placed.as_mut_ptr(),
+            count
+        )?;
+        Ok(placed.into_iter().map(SlabAddress::of).collect())
+    }
+
+    /// The open batch takes effect. Ids that it frees, and slots that its objects had before, are pending until a
+    /// [`release`](Self::release). Refuses where none is open with 12.
+    pub fn commit(&mut self) -> Result<(), Refusal> {
+        lend!(self, wentuhoro_commit: writes id_marks, writes locations, writes slot_marks, writes owners, writes batch, writes tallies)
+    }
+
+    /// The open batch is dropped, and the slots that it took are free again. Refuses where none is open with 12.
+    pub fn abandon(&mut self) -> Result<(), Refusal> {
+        lend!(self, wentuhoro_abandon: writes slot_marks, writes batch, writes tallies)
+    }
+
+    /// Every pending id and slot becomes free. Refuses while a batch is open with 11.
+    pub fn release(&mut self) -> Result<(), Refusal> {
+        lend!(self, wentuhoro_release: writes id_marks, writes slot_marks, reads batch, writes tallies)
+    }
+
+    /// The objects to move so that slabs are filled to this ratio (above 0, at most 1), by slab, then slot. Refuses while a batch is open
+    /// with 11, another ratio with 14.
+    pub fn objects_to_defrag(&self, target_fill_ratio: f32) -> Result<Vec<(u64, SlabAddress)>, Refusal> {
+        let rows = self.ids - 1;
+        let (mut ids, mut locations, mut count) = (vec![0; rows], vec![0; rows], 0);
+        lend!(
+            self,
+            wentuhoro_defrag: reads locations, reads slot_marks, reads owners, reads batch, reads tallies;
+            target_fill_ratio,
+            ids.as_mut_ptr(),
+            rows,
+            locations.as_mut_ptr(),
+            rows,
+            &mut count,
+            1
+        )?;
+        let moved = ids.into_iter().zip(locations).take(count as usize);
+        Ok(moved.filter_map(|(id, location)| Some((id, SlabAddress::of(location)?))).collect())
+    }
+
+    /// Ids and slots granted and freed since fresh or rebuild, modulo 2^64.
+    pub fn stats(&self) -> AllocatorStats {
+        let mut sums = [0; 4];
+        lend!(self, wentuhoro_stats: reads tallies; sums.as_mut_ptr(), sums.len()).expect("the tables have their lengths");
+        let [objects_allocated, objects_freed, heap_slots_allocated, heap_slots_freed] = sums;
+        AllocatorStats { objects_allocated, objects_freed, heap_slots_allocated, heap_slots_freed }
+    }
+
+    /// Granted and freed by each allocator: the ids', then each slab's.
+    pub fn counters(&self) -> [(u64, u64); ALLOCATORS] {
+        let (mut granted, mut freed) = ([0; ALLOCATORS], [0; ALLOCATORS]);
+        lend!(self, wentuhoro_counters: reads tallies; granted.as_mut_ptr(), ALLOCATORS, freed.as_mut_ptr(), ALLOCATORS)
+            .expect("the tables have their lengths");
+        std::array::from_fn(|at| (granted[at], freed[at]))
+    }
+
+    /// Whether a slab's file is to be cut, for a target `t` of 1 to 86 (sled's is 80). Raises the slab's high mark to its last slot.
+    ///
+    /// Refuses while a batch is open with 11, a slab past 77 with 3, another t with 14.
+    ///
+    /// ```
+    /// # use wentuhoro::{Store, Update};
+    /// # let mut store = Store::new(200, 200)?;
+    /// # let ids: Vec<u64> = (0..100).map(|_| store.allocate_object_id()).collect::<Result<_, _>>()?;
+    /// # store.offer(&ids.iter().map(|&id| Update::Store { id, length: 3 }).collect::<Vec<_>>())?;
+    /// # store.commit()?;
+    /// // A hundred objects in slab 0, of which the last 60 go.
+    /// assert_eq!(store.truncation(0, 80)?, None);
+    /// store.offer(&ids[40..].iter().map(|&id| Update::Free { id }).collect::<Vec<_>>())?;
+    /// store.commit()?;
+    /// store.release()?;
+    /// let cut = store.truncation(0, 80)?.unwrap();
+    /// assert_eq!(cut.length, 2944);
+    /// store.cut_done(0, 80)?;
+    /// assert_eq!(store.truncation(0, 80)?, None);
+    /// # Ok::<(), wentuhoro::Refusal>(())
+    /// ```
+    pub fn truncation(&mut self, slab: usize, t: u64) -> Result<Option<Cut>, Refusal> {
+        let mut cut = [0; 3];
+        lend!(self, wentuhoro_truncation: reads slot_marks, reads batch, writes tallies; slab as u64, t, cut.as_mut_ptr(), cut.len())?;
+        let [is_cut, length, given_back] = cut;
+        Ok((is_cut == 1).then_some(Cut { length, given_back }))
+    }
+
+    /// A slab's file was cut: its high mark is its last slot again. Refuses as [`truncation`](Self::truncation) does, and with 17 where
+    /// that says keep.
+    pub fn cut_done(&mut self, slab: usize, t: u64) -> Result<(), Refusal> {
+        lend!(self, wentuhoro_cut_done: reads slot_marks, reads batch, writes tallies; slab as u64, t)
+    }
+}
+
+impl Update {
+    pub fn id(&self) -> u64 {
+        match *self {
+            Update::Store { id, .. } | Update::Free { id } => id,
+        }
+    }
+
+    fn length(&self) -> u64 {
+        match *self {
+            Update::Store { length, .. } => length,
+            Update::Free { .. } => 0,
+        }
+    }
+}
