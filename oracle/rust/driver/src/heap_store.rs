@@ -43,7 +43,7 @@ impl HeapStore {
         }
     }
 
-    fn heap(&self) -> &Heap {
+    pub fn heap(&self) -> &Heap {
         self.heap.as_ref().unwrap()
     }
 

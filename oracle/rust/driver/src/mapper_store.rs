@@ -9,9 +9,9 @@ use crate::words::{Asked, Words};
 use crate::{dump, stand_ins, CollectionId, DeferredFree, SlabAddress, Store};
 
 pub struct MapperStore {
-    mapper: ObjectLocationMapper,
-    waiting: Ebr<DeferredFree, 16, 16>,
-    open: Option<Vec<UpdateMetadata>>,
+    pub mapper: ObjectLocationMapper,
+    pub waiting: Ebr<DeferredFree, 16, 16>,
+    pub open: Option<Vec<UpdateMetadata>>,
 }
 
 impl MapperStore {

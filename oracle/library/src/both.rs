@@ -1,0 +1,150 @@
+//! Both sides in one process: each call made on each, each answer compared.
+use std::panic::{catch_unwind, AssertUnwindSafe};
+use std::time::Instant;
+
+use crate::calls::Call;
+use crate::chance::Chance;
+use crate::heap_store::HeapStore;
+use crate::judge::{Judge, Rust};
+use crate::mapper_store::MapperStore;
+use crate::our_heap::OurHeap;
+use crate::ours::Ours;
+use crate::{answer, full, histories, leaf_lines, tiny, Store};
+
+#[derive(Default)]
+pub struct Counts {
+    pub compared: u64,
+    pub refusals: u64,
+    /// Calls that the Rust is known to answer otherwise: docs/DIFFERENCES.md.
+    pub listed: u64,
+    pub differences: u64,
+}
+
+const SHOWN: u64 = 3;
+
+impl Counts {
+    pub fn compare(&mut self, history: &[String], line: &str, library: &str, expected: &str) -> bool {
+        self.compared += 1;
+        if library == expected {
+            return true;
+        }
+        self.differences += 1;
+        if self.differences <= SHOWN {
+            let cut = |text: &str| text.chars().take(400).collect::<String>();
+            println!("  differs after:");
+            history.iter().for_each(|line| println!("    {}", cut(line)));
+            println!("  call:     {}\n  library:  {}\n  expected: {}", cut(line), cut(library), cut(expected));
+        }
+        false
+    }
+}
+
+/// The library in either form.
+pub trait OurStore: Store {
+    fn ours(&mut self) -> &mut Ours;
+}
+
+impl OurStore for Ours {
+    fn ours(&mut self) -> &mut Ours {
+        self
+    }
+}
+
+impl OurStore for OurHeap {
+    fn ours(&mut self) -> &mut Ours {
+        &mut self.ours
+    }
+}
+
+pub struct Both {
+    pub rust: Box<dyn Rust>,
+    pub ours: Box<dyn OurStore>,
+    pub ids: u64,
+    pub slots: u64,
+    pub history: Vec<String>,
+}
+
+impl Both {
+    pub fn mapper(ids: u64, slots: u64) -> Both {
+        let (rust, ours) = (Box::new(MapperStore::new()), Box::new(Ours::new(ids as usize, slots as usize)));
+        Both { rust, ours, ids, slots, history: vec![Call::Fresh.line(ids, slots)] }
+    }
+
+    pub fn heap(ids: u64, slots: u64) -> Both {
+        let (rust, ours) = (Box::new(HeapStore::new()), Box::new(OurHeap::new(ids as usize, slots as usize)));
+        Both { rust, ours, ids, slots, history: vec![Call::Fresh.line(ids, slots)] }
+    }
+
+    pub fn judge(&self) -> Judge<'_> {
+        Judge { rust: &*self.rust, ids: self.ids, slots: self.slots }
+    }
+
+    /// Makes a call on both sides; where document 01 refuses it, on the library alone. Whether the answers agree.
+    pub fn call(&mut self, counts: &mut Counts, call: Call) -> bool {
+        if matches!(call, Call::Defrag(bits) if self.judge().asserts(f32::from_bits(bits))) {
+            counts.listed += 1;
+            return true;
+        }
+        let line = call.line(self.ids, self.slots);
+        let refusal = self.judge().refusal(&call);
+        let watched = self.ours.ours().tables.watched;
+        self.ours.ours().tables.watched |= refusal.is_some();
+        let library = answer(&mut *self.ours, &line);
+        self.ours.ours().tables.watched = watched;
+        let expected = match refusal {
+            Some((number, index)) => {
+                counts.refusals += 1;
+                format!("refused {number} {index}")
+            }
+            None => {
+                let rust = &mut self.rust;
+                let said = catch_unwind(AssertUnwindSafe(|| answer(&mut **rust, &line)));
+                said.unwrap_or_else(|_| "a panic of the Rust".into())
+            }
+        };
+        let agree = counts.compare(&self.history, &line, &library, &expected);
+        self.history.push(line);
+        agree
+    }
+}
+
+/// The whole comparison; 1 where anything differs.
+pub fn compare(count: u64, seed: u64) -> i32 {
+    let begun = Instant::now();
+    let chance = &mut Chance::new(seed);
+    let (mut compared, mut differences) = (0, 0);
+    let small = count < 10_000;
+    let mut part = |words: &str, work: &mut dyn FnMut(&mut Counts) -> String| {
+        let mut counts = Counts::default();
+        let found = work(&mut counts);
+        println!(
+            "{:6.1} s  {words}{found}: {} compared, {} of them refusals, {} listed differences met, {} unlisted",
+            begun.elapsed().as_secs_f64(), counts.compared, counts.refusals, counts.listed, counts.differences
+        );
+        compared += counts.compared;
+        differences += counts.differences;
+    };
+    let none = String::new;
+    part("classes, checks, addresses", &mut |counts| { leaf_lines::numbers(counts, chance); none() });
+    part("frames, whole and damaged", &mut |counts| { leaf_lines::frames(counts, chance, if small { 10 } else { 200 }); none() });
+    part("cookies, whole and damaged", &mut |counts| { leaf_lines::cookies(counts, chance, if small { 100 } else { 5_000 }); none() });
+    part("f32 cutoffs", &mut |counts| { leaf_lines::cutoffs(counts, chance, if small { 16 } else { 120 }); none() });
+    part("truncations on files", &mut |counts| { leaf_lines::truncations(counts, chance, if small { 5 } else { 150 }); none() });
+    part(&format!("{count} random histories of the mapper"), &mut |counts| { histories::mapper(counts, chance, count); none() });
+    let on_files = (count / 50).max(20);
+    part(&format!("{on_files} random histories of the whole heap"), &mut |counts| { histories::heap(counts, chance, on_files); none() });
+    for (ids, slots, lengths) in tiny::SIZES {
+        if !(small && ids * slots * lengths.len() as u64 > 4) {
+            let words = format!("every history, {ids} ids, {slots} slots, {} slab(s)", lengths.len());
+            part(&words, &mut |counts| format!(", {} states", tiny::closure(counts, *ids, *slots, lengths)));
+        }
+    }
+    if !small {
+        part("capacities of 65,536", &mut |counts| { full::run(counts, chance); none() });
+    }
+    match differences {
+        0 => println!("{compared} answers compared: no unlisted difference"),
+        _ => println!("{compared} answers compared: {differences} UNLISTED DIFFERENCES"),
+    }
+    i32::from(differences > 0)
+}

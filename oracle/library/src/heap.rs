@@ -1,0 +1,3 @@
+include!("../../original/heap.rs");
+#[path = "../../rust/driver/src/heap/probe.rs"]
+pub(crate) mod probe;

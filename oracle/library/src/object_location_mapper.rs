@@ -1,0 +1,3 @@
+include!("../../original/object_location_mapper.rs");
+#[path = "../../rust/driver/src/object_location_mapper/probe.rs"]
+pub(crate) mod probe;

@@ -1,0 +1,256 @@
+//! The six tables, guarded, and every exported store call on them.
+//!
+//! After each call: every canary lives; where it refused, every lent byte is as it was; where it granted, what it is lent for reading only
+//! is. What is found broken is told in `broken`.
+use crate::guarded::{Canary, Guarded};
+use wentuhoro::raw;
+
+pub const SLABS: usize = 78;
+pub const ALLOCATORS: usize = 79;
+pub const BATCH_WORDS: usize = 513;
+pub const TALLY_WORDS: usize = 473;
+pub const MOST_UPDATES: usize = 256;
+pub const USED: usize = 158;
+pub const HINT: usize = 237;
+pub const WAITING: usize = 316;
+pub const HIGH: usize = 395;
+
+/// A status above 0.
+pub type Refused = u64;
+
+#[derive(Clone)]
+pub struct Tables {
+    pub ids: usize,
+    pub slots: usize,
+    pub id_marks: Guarded<u8>,
+    pub locations: Guarded<u64>,
+    pub slot_marks: Guarded<u8>,
+    pub owners: Guarded<u64>,
+    pub batch: Guarded<u64>,
+    pub tallies: Guarded<u64>,
+    /// Whether the tables are copied before each call, to compare them after it. Large ones are copied where a refusal is expected.
+    pub watched: bool,
+    pub broken: Option<String>,
+}
+
+#[derive(Clone, Copy, PartialEq, Eq)]
+pub struct Update {
+    pub store: bool,
+    pub id: u64,
+    pub length: u64,
+    pub seed: u64,
+}
+
+macro_rules! pointer {
+    (reads $tables:ident $table:ident) => { $tables.$table.as_ptr() };
+    (writes $tables:ident $table:ident) => { $tables.$table.as_mut_ptr() };
+}
+
+macro_rules! lend {
+    ($tables:ident, $call:ident: $($how:ident $table:ident),* $(; $($word:expr),*)?) => {{
+        let before = $tables.watched.then(|| $tables.clone());
+        let status = unsafe {
+            raw::$call($tables.ids, $tables.slots, $(pointer!($how $tables $table), $tables.$table.len(),)* $($($word),*)?)
+        };
+        $tables.wrong_on_purpose(status);
+        $tables.look_at_canaries();
+        if let Some(before) = before {
+            let may_write: &[&str] = if status == 0 { &[$(written!($how $table)),*] } else { &[] };
+            $tables.look_at_tables(stringify!($call), &before, may_write);
+        }
+        status
+    }};
+}
+
+macro_rules! written {
+    (reads $table:ident) => { "" };
+    (writes $table:ident) => { stringify!($table) };
+}
+
+fn granted<T>(status: u64, answer: T) -> Result<T, Refused> {
+    if status == 0 { Ok(answer) } else { Err(status) }
+}
+
+impl Tables {
+    /// Tables of the right lengths that hold rubbish: a fresh or a rebuild writes every word.
+    pub fn new(ids: usize, slots: usize) -> Tables {
+        Tables {
+            ids,
+            slots,
+            id_marks: Guarded::unwritten(ids),
+            locations: Guarded::unwritten(ids),
+            slot_marks: Guarded::unwritten(SLABS * slots),
+            owners: Guarded::unwritten(SLABS * slots),
+            batch: Guarded::unwritten(BATCH_WORDS),
+            tallies: Guarded::unwritten(TALLY_WORDS),
+            watched: ids.max(slots) <= 1_024,
+            broken: None,
+        }
+    }
+
+    pub fn fresh(&mut self) -> Result<(), Refused> {
+        let status =
+            lend!(self, wentuhoro_fresh: writes id_marks, writes locations, writes slot_marks, writes owners, writes batch, writes tallies);
+        granted(status, ())
+    }
+
+    pub fn rebuild(&mut self, rows: &[(u64, u64)]) -> Result<(), Refused> {
+        let (ids, locations): (Vec<u64>, Vec<u64>) = rows.iter().copied().unzip();
+        let (row_ids, row_locations) = (Guarded::of(&ids), Guarded::of(&locations));
+        let status = lend!(
+            self, wentuhoro_rebuild: writes id_marks, writes locations, writes slot_marks, writes owners, writes batch, writes tallies;
+            row_ids.as_ptr(), row_ids.len(), row_locations.as_ptr(), row_locations.len()
+        );
+        self.look_at_input(&row_ids, &ids);
+        self.look_at_input(&row_locations, &locations);
+        granted(status, ())
+    }
+
+    pub fn new_id(&mut self) -> Result<u64, Refused> {
+        let mut id = Guarded::unwritten(1);
+        let status = lend!(self, wentuhoro_new_id: writes id_marks, reads batch, writes tallies; id.as_mut_ptr(), id.len());
+        self.look_at_answer(&id, status);
+        granted(status, id.values()[0])
+    }
+
+    pub fn lookup(&mut self, id: u64) -> Result<u64, Refused> {
+        let mut location = Guarded::unwritten(1);
+        let status = lend!(
+            self, wentuhoro_lookup: reads id_marks, reads locations, reads slot_marks, reads owners, reads tallies;
+            id, location.as_mut_ptr(), location.len()
+        );
+        self.look_at_answer(&location, status);
+        granted(status, location.values()[0])
+    }
+
+    pub fn offer(&mut self, updates: &[Update]) -> Result<Vec<u64>, Refused> {
+        let ids: Vec<u64> = updates.iter().map(|update| update.id).collect();
+        let stores: Vec<bool> = updates.iter().map(|update| update.store).collect();
+        let lengths: Vec<u64> = updates.iter().map(|update| update.length).collect();
+        let (lent_ids, lent_stores, lent_lengths) = (Guarded::of(&ids), Guarded::of(&stores), Guarded::of(&lengths));
+        let mut placed = Guarded::unwritten(updates.len());
+        let status = lend!(
+            self, wentuhoro_offer: reads id_marks, reads locations, writes slot_marks, reads owners, writes batch, writes tallies;
+            lent_ids.as_ptr(), lent_ids.len(), lent_stores.as_ptr(), lent_stores.len(), lent_lengths.as_ptr(), lent_lengths.len(),
+            placed.as_mut_ptr(), placed.len()
+        );
+        self.look_at_input(&lent_ids, &ids);
+        self.look_at_input(&lent_stores, &stores);
+        self.look_at_input(&lent_lengths, &lengths);
+        self.look_at_answer(&placed, status);
+        granted(status, placed.values().to_vec())
+    }
+
+    pub fn commit(&mut self) -> Result<(), Refused> {
+        let status =
+            lend!(self, wentuhoro_commit: writes id_marks, writes locations, writes slot_marks, writes owners, writes batch, writes tallies);
+        granted(status, ())
+    }
+
+    pub fn abandon(&mut self) -> Result<(), Refused> {
+        granted(lend!(self, wentuhoro_abandon: writes slot_marks, writes batch, writes tallies), ())
+    }
+
+    pub fn release(&mut self) -> Result<(), Refused> {
+        granted(lend!(self, wentuhoro_release: writes id_marks, writes slot_marks, reads batch, writes tallies), ())
+    }
+
+    pub fn stats(&mut self) -> Result<Vec<u64>, Refused> {
+        let mut sums = Guarded::unwritten(4);
+        let status = lend!(self, wentuhoro_stats: reads tallies; sums.as_mut_ptr(), sums.len());
+        self.look_at_answer(&sums, status);
+        granted(status, sums.values().to_vec())
+    }
+
+    pub fn counters(&mut self) -> Result<Vec<(u64, u64)>, Refused> {
+        let (mut granted_, mut freed) = (Guarded::unwritten(ALLOCATORS), Guarded::unwritten(ALLOCATORS));
+        let status = lend!(self, wentuhoro_counters: reads tallies; granted_.as_mut_ptr(), granted_.len(), freed.as_mut_ptr(), freed.len());
+        self.look_at_answer(&granted_, status);
+        self.look_at_answer(&freed, status);
+        granted(status, granted_.values().iter().copied().zip(freed.values().iter().copied()).collect())
+    }
+
+    /// (id, location) of each row; the rows past the count keep what they held.
+    pub fn defrag(&mut self, ratio: f32) -> Result<Vec<(u64, u64)>, Refused> {
+        let rows = self.ids - 1;
+        let (mut ids, mut locations, mut count) = (Guarded::unwritten(rows), Guarded::unwritten(rows), Guarded::unwritten(1));
+        let status = lend!(
+            self, wentuhoro_defrag: reads locations, reads slot_marks, reads owners, reads batch, reads tallies;
+            ratio, ids.as_mut_ptr(), ids.len(), locations.as_mut_ptr(), locations.len(), count.as_mut_ptr(), count.len()
+        );
+        for answer in [&ids, &locations, &count] {
+            self.look_at_answer(answer, status);
+        }
+        let listed = if status == 0 { count.values()[0] as usize } else { 0 };
+        for list in [&ids, &locations] {
+            if !list.values()[listed..].iter().all(|row| *row == u64::UNWRITTEN) {
+                self.broken = Some("a row past the count was written".into());
+            }
+        }
+        granted(status, ids.values().iter().copied().zip(locations.values().iter().copied()).take(listed).collect())
+    }
+
+    /// The length to cut to and the bytes given back, or nothing to keep.
+    pub fn truncation(&mut self, slab: u64, t: u64) -> Result<Option<(u64, u64)>, Refused> {
+        let mut cut = Guarded::unwritten(3);
+        let status =
+            lend!(self, wentuhoro_truncation: reads slot_marks, reads batch, writes tallies; slab, t, cut.as_mut_ptr(), cut.len());
+        self.look_at_answer(&cut, status);
+        let answer = match *cut.values() {
+            [0, 0, 0] => None,
+            [_, length, given_back] => Some((length, given_back)),
+            _ => unreachable!(),
+        };
+        granted(status, answer)
+    }
+
+    pub fn cut_done(&mut self, slab: u64, t: u64) -> Result<(), Refused> {
+        granted(lend!(self, wentuhoro_cut_done: reads slot_marks, reads batch, writes tallies; slab, t), ())
+    }
+
+    // -- what a call must leave
+
+    fn look_at_canaries(&mut self) {
+        let bytes = [&self.id_marks, &self.slot_marks].into_iter().all(Guarded::canaries_live);
+        let words = [&self.locations, &self.owners, &self.batch, &self.tallies].into_iter().all(Guarded::canaries_live);
+        if !(bytes && words) {
+            self.broken = Some("a canary beside a table was written".into());
+        }
+    }
+
+    fn look_at_tables(&mut self, call: &str, before: &Tables, may_write: &[&str]) {
+        let kept = [
+            ("id_marks", self.id_marks == before.id_marks),
+            ("locations", self.locations == before.locations),
+            ("slot_marks", self.slot_marks == before.slot_marks),
+            ("owners", self.owners == before.owners),
+            ("batch", self.batch == before.batch),
+            ("tallies", self.tallies == before.tallies),
+        ];
+        for (table, same) in kept {
+            if !same && !may_write.contains(&table) {
+                self.broken = Some(format!("{call} wrote {table}"));
+            }
+        }
+    }
+
+    fn look_at_input<T: Canary>(&mut self, lent: &Guarded<T>, as_it_was: &[T]) {
+        if !lent.canaries_live() || lent.values() != as_it_was {
+            self.broken = Some("a lent input was written".into());
+        }
+    }
+
+    fn look_at_answer(&mut self, answer: &Guarded<u64>, status: u64) {
+        if !answer.canaries_live() || (status != 0 && !answer.is_unwritten()) {
+            self.broken = Some("a lent answer was written on a refusal, or beside it".into());
+        }
+    }
+
+    fn wrong_on_purpose(&mut self, status: u64) {
+        match crate::ours::wrong() {
+            "canary" => self.locations.write_past_the_end(0),
+            "refusal" if status != 0 => self.tallies.values_mut()[HIGH] ^= 1,
+            _ => {}
+        }
+    }
+}
