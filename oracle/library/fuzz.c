@@ -1,0 +1,495 @@
+/* Every exported call with arbitrary tables, lengths and numbers.
+ *
+ *     fuzz SECONDS SEED
+ *
+ * Each lent slice stands flush against a page that may not be touched, at its end or at its start; the bytes on its other side are
+ * canaries. After each call: no canary has changed; a slice lent for reading is as it was; on a refusal every slice is; and the refusal is
+ * one that document 01 lists for that call. Cases go to standard output, as fast as somebody reads them there, for judging by the model
+ * (fuzz_judge.py).
+ *
+ * FUZZ_WRONG=refusal, outside, input or answer changes a byte after each call, as if the library had written it. */
+#define _DEFAULT_SOURCE
+#include <inttypes.h>
+#include <poll.h>
+#include <stdio.h>
+#include <stdlib.h>
+#include <string.h>
+#include <sys/mman.h>
+#include <time.h>
+#include <unistd.h>
+
+#include "wentuhoro.h"
+
+/* ---- chance */
+
+static uint64_t seed, seed_of_case;
+
+static uint64_t word(void) {
+    uint64_t z = (seed += UINT64_C(0x9E3779B97F4A7C15));
+    z = (z ^ (z >> 30)) * UINT64_C(0xBF58476D1CE4E5B9);
+    z = (z ^ (z >> 27)) * UINT64_C(0x94D049BB133111EB);
+    return z ^ (z >> 31);
+}
+
+static uint64_t below(uint64_t most) { return word() % most; }
+
+static bool in_hundred(unsigned percent) { return below(100) < percent; }
+
+#define ONE_OF(...) (((const uint64_t[]){__VA_ARGS__})[below(sizeof((const uint64_t[]){__VA_ARGS__}) / sizeof(uint64_t))])
+
+/* ---- lent slices */
+
+enum { PAGE = 4096, MOST_SLICES = 12, CANARY = 0xC5, LOOKED_AT = 512 };
+
+struct slice {
+    uint8_t *region; /* between two pages that may not be touched */
+    uint8_t *at;
+    uint8_t *before;
+    size_t width; /* bytes of an entry */
+    size_t length;
+    bool written; /* lent for writing */
+};
+
+static const size_t region_bytes = (WENTUHORO_SLABS * (size_t)WENTUHORO_MOST_SLOTS + 2) * 8 / PAGE * PAGE + PAGE;
+static struct slice slices[MOST_SLICES];
+static size_t lent;
+
+static void make_regions(void) {
+    for (size_t i = 0; i < MOST_SLICES; i++) {
+        uint8_t *all = mmap(NULL, region_bytes + 2 * PAGE, PROT_NONE, MAP_PRIVATE | MAP_ANONYMOUS | MAP_NORESERVE, -1, 0);
+        if (all == MAP_FAILED || mprotect(all + PAGE, region_bytes, PROT_READ | PROT_WRITE) != 0) {
+            perror("fuzz");
+            exit(2);
+        }
+        slices[i].region = all + PAGE;
+        slices[i].before = malloc(region_bytes);
+    }
+}
+
+static size_t bytes_of(const struct slice *s) { return s->width * s->length; }
+
+/* The next slice, all zero. */
+static struct slice *lend(size_t width, size_t length, bool written) {
+    struct slice *s = &slices[lent++];
+    s->width = width;
+    s->length = length;
+    s->written = written;
+    bool at_end = in_hundred(70);
+    s->at = at_end ? s->region + region_bytes - bytes_of(s) : s->region;
+    memset(s->at, 0, bytes_of(s));
+    memset(at_end ? s->at - LOOKED_AT : s->at + bytes_of(s), CANARY, LOOKED_AT);
+    return s;
+}
+
+static uint64_t *words(const struct slice *s) { return (uint64_t *)(void *)s->at; }
+
+static const uint8_t *canaries(const struct slice *s) { return s->at == s->region ? s->at + bytes_of(s) : s->at - LOOKED_AT; }
+
+/* ---- calls and their refusals */
+
+enum call {
+    NEW_ID, LOOKUP, OFFER, COMMIT, ABANDON, RELEASE, FRESH, REBUILD, STATS, COUNTERS, DEFRAG, TRUNCATION, CUT_DONE,
+    CLASS, CRC32, CRC32_UPDATE, FRAME_WRITE, FRAME_READ, COOKIE_WRITE, COOKIE_READ, COOKIE_VERIFY, PACK, UNPACK, CALLS
+};
+
+static const struct {
+    const char *name;
+    const char *refusals; /* as characters of these numbers */
+} listed[CALLS] = {
+    {"new_id", "\1\13\12"},
+    {"lookup", "\1\10\15"},
+    {"offer", "\1\13\17\10\11\2\15\12"},
+    {"commit", "\1\14\15"},
+    {"abandon", "\1\14\15"},
+    {"release", "\1\13"},
+    {"fresh", "\1"},
+    {"rebuild", "\1\10\11\3\20"},
+    {"stats", "\1"},
+    {"counters", "\1"},
+    {"defrag", "\1\13\16"},
+    {"truncation", "\1\13\3\16"},
+    {"cut_done", "\1\13\3\16\21"},
+    {"class", "\1\2"},
+    {"crc32", ""},
+    {"crc32_update", ""},
+    {"frame_write", "\1\5"},
+    {"frame_read", "\1\4\5"},
+    {"cookie_write", "\1"},
+    {"cookie_read", "\1\4\6"},
+    {"cookie_verify", "\1\4\6\7"},
+    {"pack", "\1\3"},
+    {"unpack", "\1\3"},
+};
+
+static uint64_t answered[CALLS][18]; /* by call and refusal, 0 for a grant */
+static uint64_t judged;
+
+/* ---- arbitrary contents */
+
+static size_t ids, slots; /* as claimed to the call */
+static size_t true_ids, true_slots; /* that the slices are made for */
+static size_t wrong_slice; /* that gets a wrong length; MOST_SLICES for none */
+
+static void choose_capacities(bool large) {
+    true_ids = large ? WENTUHORO_MOST_IDS : 2 + below(5);
+    true_slots = large ? WENTUHORO_MOST_SLOTS : 1 + below(4);
+    ids = true_ids;
+    slots = true_slots;
+    if (in_hundred(2)) ids = ONE_OF(0, 1, 65537, UINT64_MAX, true_ids + 1);
+    if (in_hundred(2)) slots = ONE_OF(0, 65537, UINT64_MAX, true_slots + 1, UINT64_C(1) << 58);
+    wrong_slice = in_hundred(6) ? below(MOST_SLICES) : MOST_SLICES;
+}
+
+static struct slice *lend_near(size_t width, size_t length, bool written) {
+    if (lent == wrong_slice) length = ONE_OF(length + 1, length + 1, length == 0 ? 1 : length - 1, 0);
+    return lend(width, length, written);
+}
+
+static uint64_t any_id(void) { return in_hundred(15) ? ONE_OF(0, true_ids, true_ids + 1, UINT64_MAX) : 1 + below(true_ids - 1); }
+
+static uint64_t good_location(void) { return (ONE_OF(0, 0, 1, 77) + 1) * (UINT64_C(1) << 56) + below(true_slots); }
+
+static uint64_t any_location(void) {
+    uint64_t slab = ONE_OF(0, 0, 1, 77, 78, 254), slot = ONE_OF(0, 1, true_slots - 1, true_slots, UINT64_C(1) << 55);
+    return in_hundred(60) ? good_location() : ONE_OF(0, 0, (slab + 1) * (UINT64_C(1) << 56) + slot, UINT64_MAX, (UINT64_C(1) << 56) - 1, 1);
+}
+
+static void fill_marks(struct slice *s) {
+    unsigned free_of = (unsigned)ONE_OF(10, 40, 80, 100);
+    for (size_t i = 0; i < s->length; i++) s->at[i] = (uint8_t)(in_hundred(free_of) ? 0 : ONE_OF(1, 1, 2, 2, 3, 255));
+}
+
+static void fill_locations(struct slice *s) {
+    for (size_t i = 0; i < s->length; i++) words(s)[i] = any_location();
+}
+
+static void fill_owners(struct slice *s) {
+    for (size_t i = 0; i < s->length; i++) words(s)[i] = in_hundred(60) ? any_id() : ONE_OF(0, 0, UINT64_MAX);
+}
+
+static void fill_batch(struct slice *s) {
+    for (size_t i = 1; i < s->length; i++) words(s)[i] = i <= 256 ? any_id() : in_hundred(30) ? 0 : any_location();
+    if (s->length > 0 && in_hundred(45)) words(s)[0] = ONE_OF(1, 2, 3, 4, 5, 257, 258, UINT64_MAX);
+}
+
+static void fill_tallies(struct slice *s) {
+    for (size_t i = 0; i < s->length; i++) {
+        bool hint = i >= 237 && i < 316, counter = i < 158;
+        words(s)[i] = counter ? ONE_OF(0, 1, 7, UINT64_MAX, UINT64_MAX - 1)
+                      : hint ? ONE_OF(0, 0, 0, 1, below(true_slots + 2), true_slots, UINT64_MAX)
+                             : i >= 395 ? ONE_OF(0, 0, below(true_slots), true_slots - 1, true_slots, UINT64_MAX) : ONE_OF(0, 0, 1, UINT64_MAX);
+    }
+}
+
+/* Some ids whose tables agree, so that grants come too. */
+static void agree(struct slice *id_marks, struct slice *locations, struct slice *slot_marks, struct slice *owners) {
+    for (size_t id = 1; id < true_ids && in_hundred(85); id++) {
+        uint64_t location = good_location();
+        size_t at = (size_t)((location >> 56) - 1) * true_slots + (size_t)(location & 0xFFFFFF);
+        if (id_marks != NULL && id < id_marks->length) id_marks->at[id] = 1;
+        if (locations != NULL && id < locations->length) words(locations)[id] = location;
+        if (at < slot_marks->length) slot_marks->at[at] = 1;
+        if (owners != NULL && at < owners->length) words(owners)[at] = id;
+    }
+}
+
+/* ---- one case */
+
+#define P(s) words(s), (s)->length
+#define B(s) (s)->at, (s)->length
+
+static uint64_t numbers[4]; /* of the case, for the judge */
+static size_t number_count;
+
+static uint64_t number(uint64_t n) {
+    numbers[number_count++] = n;
+    return n;
+}
+
+static void keep_before(void) {
+    for (size_t i = 0; i < lent; i++) memcpy(slices[i].before, slices[i].at, bytes_of(&slices[i]));
+}
+
+static float any_ratio(void) {
+    uint32_t bits = (uint32_t)ONE_OF(0x3F400000, 0x3F000000, 0x3EAAAAAB, 0x3F800000, 0x3F666667, 1, 0x3F7FFFFF, 0, 0x80000000, 0x7F800000,
+                                     0x7FC00000, 0x3F800001, 1 + below(0x3F800000), 1 + below(0x3F800000), word() & 0xFFFFFFFF);
+    float ratio;
+    number(bits);
+    memcpy(&ratio, &bits, sizeof ratio);
+    return ratio;
+}
+
+static uint64_t store_call(enum call call) {
+    bool has_ids = call != ABANDON && call != DEFRAG && call != TRUNCATION && call != CUT_DONE && call != STATS && call != COUNTERS;
+    bool whole = call == OFFER || call == COMMIT || call == FRESH || call == REBUILD;
+    bool has_slots = call != NEW_ID && call != STATS && call != COUNTERS;
+    bool writes_all = call == COMMIT || call == FRESH || call == REBUILD;
+    bool located = whole || call == LOOKUP || call == DEFRAG;
+    bool has_batch = call != LOOKUP && call != STATS && call != COUNTERS;
+    struct slice *im = NULL, *lo = NULL, *sm = NULL, *ow = NULL, *ba = NULL, *ta;
+    if (has_ids) fill_marks(im = lend_near(1, true_ids, writes_all || call == NEW_ID || call == RELEASE));
+    if (located) fill_locations(lo = lend_near(8, true_ids, writes_all));
+    if (has_slots) fill_marks(sm = lend_near(1, WENTUHORO_SLABS * true_slots, writes_all || call == OFFER || call == ABANDON || call == RELEASE));
+    if (located) fill_owners(ow = lend_near(8, WENTUHORO_SLABS * true_slots, writes_all));
+    if (has_batch) fill_batch(ba = lend_near(8, WENTUHORO_BATCH_WORDS, writes_all || call == OFFER || call == ABANDON));
+    bool counts_only = call == LOOKUP || call == STATS || call == COUNTERS || call == DEFRAG;
+    fill_tallies(ta = lend_near(8, WENTUHORO_TALLY_WORDS, !counts_only));
+    if (has_slots) agree(im, lo, sm, ow);
+    number(ids);
+    number(slots);
+    struct slice *a, *b, *c, *d;
+    size_t count;
+    uint64_t n, t;
+    float ratio;
+    switch (call) {
+    case NEW_ID:
+        a = lend_near(8, 1, true);
+        keep_before();
+        return wentuhoro_new_id(ids, slots, B(im), P(ba), P(ta), P(a));
+    case LOOKUP:
+        n = number(any_id());
+        a = lend_near(8, 1, true);
+        keep_before();
+        return wentuhoro_lookup(ids, slots, B(im), P(lo), B(sm), P(ow), P(ta), n, P(a));
+    case OFFER:
+        count = in_hundred(97) ? below(4) : 255 + below(3);
+        a = lend_near(8, count, false);
+        b = lend_near(1, count, false);
+        c = lend_near(8, count, false);
+        d = lend_near(8, count, true);
+        for (size_t i = 0; i < a->length; i++) words(a)[i] = any_id();
+        for (size_t i = 0; i < b->length; i++) b->at[i] = in_hundred(75);
+        for (size_t i = 0; i < c->length; i++) words(c)[i] = ONE_OF(3, 3, 59, 60, UINT64_C(17179869172), UINT64_C(17179869173), UINT64_MAX);
+        keep_before();
+        return wentuhoro_offer(ids, slots, B(im), P(lo), B(sm), P(ow), P(ba), P(ta), P(a), (const bool *)b->at, b->length, P(c), P(d));
+    case COMMIT:
+        keep_before();
+        return wentuhoro_commit(ids, slots, B(im), P(lo), B(sm), P(ow), P(ba), P(ta));
+    case ABANDON:
+        keep_before();
+        return wentuhoro_abandon(ids, slots, B(sm), P(ba), P(ta));
+    case RELEASE:
+        keep_before();
+        return wentuhoro_release(ids, slots, B(im), B(sm), P(ba), P(ta));
+    case FRESH:
+        keep_before();
+        return wentuhoro_fresh(ids, slots, B(im), P(lo), B(sm), P(ow), P(ba), P(ta));
+    case REBUILD:
+        count = below(5);
+        a = lend_near(8, count, false);
+        b = lend_near(8, count, false);
+        for (size_t i = 0; i < a->length; i++) words(a)[i] = any_id();
+        for (size_t i = 0; i < b->length; i++) words(b)[i] = in_hundred(80) ? good_location() : any_location();
+        keep_before();
+        return wentuhoro_rebuild(ids, slots, B(im), P(lo), B(sm), P(ow), P(ba), P(ta), P(a), P(b));
+    case STATS:
+        a = lend_near(8, 4, true);
+        keep_before();
+        return wentuhoro_stats(ids, slots, P(ta), P(a));
+    case COUNTERS:
+        a = lend_near(8, WENTUHORO_ALLOCATORS, true);
+        b = lend_near(8, WENTUHORO_ALLOCATORS, true);
+        keep_before();
+        return wentuhoro_counters(ids, slots, P(ta), P(a), P(b));
+    case DEFRAG:
+        ratio = any_ratio();
+        a = lend_near(8, true_ids - 1, true);
+        b = lend_near(8, true_ids - 1, true);
+        c = lend_near(8, 1, true);
+        keep_before();
+        return wentuhoro_defrag(ids, slots, P(lo), B(sm), P(ow), P(ba), P(ta), ratio, P(a), P(b), P(c));
+    case TRUNCATION:
+    case CUT_DONE:
+        n = number(ONE_OF(0, 0, 1, 77, below(78), 78, UINT64_MAX));
+        t = number(ONE_OF(1, 80, 86, 86, 0, 87, 1 + below(86), UINT64_MAX));
+        if (call == CUT_DONE) {
+            keep_before();
+            return wentuhoro_cut_done(ids, slots, B(sm), P(ba), P(ta), n, t);
+        }
+        a = lend_near(8, 3, true);
+        keep_before();
+        return wentuhoro_truncation(ids, slots, B(sm), P(ba), P(ta), n, t, P(a));
+    default:
+        abort();
+    }
+}
+
+static void fill_bytes(struct slice *s) {
+    for (size_t i = 0; i < s->length; i++) s->at[i] = (uint8_t)word();
+}
+
+/* A check under the bytes before it, as frames and cookies have. */
+static void sign(struct slice *s, size_t body) {
+    if (body + 4 > s->length) return;
+    uint32_t check = wentuhoro_crc32(s->at, body) ^ 0xAF;
+    for (size_t i = 0; i < 4; i++) s->at[body + i] = (uint8_t)(check >> (8 * i));
+}
+
+static struct slice *any_cookie(void) {
+    struct slice *s = lend_near(1, ONE_OF(64, 64, 64, 64, 65, 100, 63, 0), false);
+    fill_bytes(s);
+    if (s->length >= 2 && in_hundred(80)) {
+        s->at[0] = (uint8_t)ONE_OF(1, 1, 1, 1, 0, 2);
+        s->at[1] = 0;
+    }
+    if (in_hundred(80)) sign(s, 60);
+    return s;
+}
+
+static uint64_t leaf_call(enum call call) {
+    struct slice *a, *b;
+    size_t size = (size_t)wentuhoro_slab_size((size_t)below(26)), n;
+    uint64_t fanout;
+    switch (call) {
+    case CLASS:
+        a = lend_near(8, 1, true);
+        keep_before();
+        return wentuhoro_class(number(word() >> below(64)), P(a));
+    case CRC32:
+    case CRC32_UPDATE:
+        fill_bytes(a = lend(1, below(in_hundred(90) ? 200 : 5000), false));
+        keep_before();
+        return call == CRC32 ? wentuhoro_crc32(B(a)) : wentuhoro_crc32_update((uint32_t)number(word() & 0xFFFFFFFF), B(a));
+    case FRAME_WRITE:
+        fill_bytes(a = lend_near(1, size, true));
+        fill_bytes(b = lend(1, ONE_OF(0, 3, size < 16 ? 0 : size - 6, size - 5, size - 4, below(size)), false));
+        keep_before();
+        return wentuhoro_frame_write(B(a), B(b));
+    case FRAME_READ:
+        fill_bytes(a = lend_near(1, size, false));
+        n = size <= 255 ? 1 : 2;
+        for (size_t i = 0; i < n && size - 4 - n + i < a->length; i++)
+            if (in_hundred(80)) a->at[size - 4 - n + i] = (uint8_t)ONE_OF(0, 1, 59, 60, (size - 4 - n) >> (8 * i));
+        if (in_hundred(80)) sign(a, size - 4);
+        b = lend_near(8, 1, true);
+        keep_before();
+        return wentuhoro_frame_read(B(a), P(b));
+    case COOKIE_WRITE:
+        fill_bytes(a = lend_near(1, 64, true));
+        fanout = number(word() >> below(64));
+        keep_before();
+        return wentuhoro_cookie_write(fanout, B(a));
+    case COOKIE_READ:
+        a = any_cookie();
+        b = lend_near(8, 1, true);
+        keep_before();
+        return wentuhoro_cookie_read(B(a), P(b));
+    case COOKIE_VERIFY:
+        a = any_cookie();
+        fanout = word();
+        if (a->length >= 10 && in_hundred(70)) memcpy(&fanout, a->at + 2, 8);
+        keep_before();
+        return wentuhoro_cookie_verify(B(a), number(fanout));
+    case PACK:
+        number(slots);
+        number(ONE_OF(0, 77, 78, below(78), UINT64_MAX));
+        number(ONE_OF(0, true_slots - 1, true_slots, below(65536), UINT64_MAX));
+        a = lend_near(8, 1, true);
+        keep_before();
+        return wentuhoro_pack(slots, numbers[1], numbers[2], P(a));
+    case UNPACK:
+        number(slots);
+        number(any_location());
+        a = lend_near(8, 3, true);
+        keep_before();
+        return wentuhoro_unpack(slots, numbers[1], P(a));
+    default:
+        abort();
+    }
+}
+
+/* ---- what must hold after it */
+
+static void fail(enum call call, uint64_t status, const char *what, size_t slice) {
+    fprintf(stderr, "%s (status %" PRIu64 "): %s, slice %zu of %zu, ids %zu, slots %zu, seed of the case %" PRIu64 "\n", listed[call].name,
+            status, what, slice, lent, ids, slots, seed_of_case);
+    exit(1);
+}
+
+static void look(enum call call, uint64_t status) {
+    static uint8_t live[LOOKED_AT];
+    memset(live, CANARY, LOOKED_AT);
+    bool refused = status != 0 && call != CRC32 && call != CRC32_UPDATE;
+    for (size_t i = 0; i < lent; i++) {
+        struct slice *s = &slices[i];
+        if (memcmp(canaries(s), live, LOOKED_AT) != 0) fail(call, status, "a canary was written", i);
+        if ((refused || !s->written) && memcmp(s->at, s->before, bytes_of(s)) != 0)
+            fail(call, status, refused ? "written on a refusal" : "written, though lent for reading", i);
+    }
+    unsigned refusal = refused ? wentuhoro_refusal_number(status) : 0;
+    if (refusal > 17 || (refused && (refusal == 0 || strchr(listed[call].refusals, (int)refusal) == NULL)))
+        fail(call, status, "no refusal that is listed for this call", 0);
+    answered[call][refusal]++;
+}
+
+static void wrong_on_purpose(uint64_t status) {
+    const char *wrong = getenv("FUZZ_WRONG");
+    if (wrong == NULL || lent == 0) return;
+    struct slice *last = &slices[lent - 1];
+    if (strcmp(wrong, "outside") == 0) ((uint8_t *)(uintptr_t)canaries(last))[LOOKED_AT / 2] ^= 1;
+    if (bytes_of(last) == 0) return;
+    if (strcmp(wrong, "refusal") == 0 && status != 0 && last->written) last->at[0] ^= 1;
+    if (strcmp(wrong, "input") == 0 && !last->written) last->at[0] ^= 1;
+    if (strcmp(wrong, "answer") == 0 && status == 0 && last->written) last->at[0] ^= 1;
+}
+
+static void put(const void *bytes, size_t count) {
+    if (count > 0 && fwrite(bytes, 1, count, stdout) != count) {
+        perror("fuzz");
+        exit(2);
+    }
+}
+
+static void tell(enum call call, uint64_t status) {
+    uint64_t head[3] = {call, number_count, lent};
+    put(head, sizeof head);
+    put(numbers, 8 * number_count);
+    for (size_t i = 0; i < lent; i++) {
+        uint64_t shape[2] = {slices[i].width, slices[i].length};
+        put(shape, sizeof shape);
+        put(slices[i].before, bytes_of(&slices[i]));
+        put(slices[i].at, bytes_of(&slices[i]));
+    }
+    put(&status, 8);
+    fflush(stdout);
+    judged++;
+}
+
+static void one_case(bool large) {
+    seed_of_case = seed;
+    enum call call = (enum call)(in_hundred(85) ? below(CLASS) : CLASS + below(CALLS - CLASS));
+    lent = number_count = 0;
+    choose_capacities(large && call < CLASS);
+    uint64_t status = call < CLASS ? store_call(call) : leaf_call(call);
+    wrong_on_purpose(status);
+    look(call, status);
+    struct pollfd out = {1, POLLOUT, 0};
+    if (!large && poll(&out, 1, 0) == 1 && (out.revents & POLLOUT) != 0) tell(call, status);
+}
+
+static double now(void) {
+    struct timespec at;
+    clock_gettime(CLOCK_MONOTONIC, &at);
+    return (double)at.tv_sec + (double)at.tv_nsec / 1e9;
+}
+
+int main(int argc, char **argv) {
+    double seconds = argc > 1 ? atof(argv[1]) : 10;
+    seed = argc > 2 ? strtoull(argv[2], NULL, 10) : 1;
+    make_regions();
+    uint64_t cases = 0, missing = 0;
+    for (double begun = now(); now() - begun < seconds;)
+        for (int i = 0; i < 100; i++) one_case(++cases % 100000 == 0);
+    for (int call = 0; call < CALLS; call++) {
+        fprintf(stderr, "%-14s %9" PRIu64 " granted", listed[call].name, answered[call][0]);
+        missing += answered[call][0] == 0;
+        for (const char *refusal = listed[call].refusals; *refusal != 0; refusal++) {
+            fprintf(stderr, ", %" PRIu64 " x %d", answered[call][(int)*refusal], *refusal);
+            missing += answered[call][(int)*refusal] == 0;
+        }
+        fprintf(stderr, "\n");
+    }
+    fprintf(stderr, "%" PRIu64 " cases, %" PRIu64 " told for judging: no byte written that may not be; %" PRIu64 " listed answers never given\n", cases,
+            judged, missing);
+    return seconds >= 10 && missing > 0;
+}
