@@ -3,6 +3,7 @@ use std::hint::black_box;
 
 use crate::heap::probe;
 use crate::ours;
+use crate::picture::Picture;
 use crate::timing::best;
 
 extern "C" {
@@ -32,7 +33,7 @@ fn calls_for(n: usize) -> u32 {
     (200_000 / (n + 20)).max(1) as u32
 }
 
-fn checks(rounds: u32) {
+fn checks(rounds: u32, picture: &mut Picture) {
     println!("\n### Check: ns a call\n\n| bytes | ours | zlib | crc32fast's tables | zlib / ours | tables / ours |\n|--:|--:|--:|--:|--:|--:|");
     for n in [0, 1, 4, 8, 16, 31, 32, 60, 64, 100, 128, 252, 256, 512, 1020, 1024, 2044, 4092, 16380, 65532, 1048572] {
         let bytes = ramp(n);
@@ -43,10 +44,11 @@ fn checks(rounds: u32) {
         let mut c = |calls| (0..calls).for_each(|_| ignore(black_box(table(black_box(&bytes)))));
         let t = best(rounds, calls_for(n), &mut [&mut a, &mut b, &mut c]);
         println!("| {n} | {:.1} | {:.1} | {:.1} | {:.2} | {:.2} |", t[0], t[1], t[2], t[1] / t[0], t[2] / t[0]);
+        picture.bar("check, beside crc32fast's tables", format!("{n} bytes"), t[2] / t[0]);
     }
 }
 
-fn classes(rounds: u32) {
+fn classes(rounds: u32, picture: &mut Picture) {
     println!("\n### Class: ns a call\n\n| sizes | ours | the Rust | the Rust / ours |\n|---|--:|--:|--:|");
     let spread = |most: u64| -> Vec<u64> { (0..1024u64).map(|i| i.wrapping_mul(0x9E37_79B9_7F4A_7C15) % most).collect() };
     for (name, most) in [("below 60", 60), ("below 4 KiB", 4096), ("below 16 GiB", 1 << 34)] {
@@ -57,6 +59,7 @@ fn classes(rounds: u32) {
         let mut b = |calls| (0..calls).for_each(|_| sizes.iter().for_each(|n| ignore(black_box(probe::class(black_box(*n))))));
         let t = best(rounds, 20, &mut [&mut a, &mut b]);
         println!("| {name} | {:.1} | {:.1} | {:.2} |", t[0] / 1024.0, t[1] / 1024.0, t[1] / t[0]);
+        picture.bar("class", name, t[1] / t[0]);
     }
 }
 
@@ -86,8 +89,8 @@ fn frames(rounds: u32) {
     }
 }
 
-pub fn run(rounds: u32) {
-    checks(rounds);
-    classes(rounds);
+pub fn run(rounds: u32, picture: &mut Picture) {
+    checks(rounds, picture);
+    classes(rounds, picture);
     frames(rounds);
 }

@@ -1,27 +1,149 @@
-//! The exported calls: a slice passes as a pointer and a length.
-extern "C" {
-    fn wentuhoro_class(n: u64, slab: *mut u64, slab_len: usize) -> u64;
-    fn wentuhoro_crc32(bytes: *const u8, bytes_len: usize) -> u32;
-    fn wentuhoro_frame_write(slot: *mut u8, slot_len: usize, object: *const u8, object_len: usize) -> u64;
-    fn wentuhoro_frame_read(slot: *const u8, slot_len: usize, length: *mut u64, length_len: usize) -> u64;
-}
+//! The exported calls, and a store of lent tables for them.
+use wentuhoro::raw;
+
+pub use wentuhoro::crc32;
 
 pub fn class(n: u64) -> u64 {
     let mut slab = [0];
-    let status = unsafe { wentuhoro_class(n, slab.as_mut_ptr(), 1) };
+    let status = unsafe { raw::wentuhoro_class(n, slab.as_mut_ptr(), 1) };
     if status == 0 { slab[0] } else { 255 }
 }
 
-pub fn crc32(bytes: &[u8]) -> u32 {
-    unsafe { wentuhoro_crc32(bytes.as_ptr(), bytes.len()) }
-}
-
 pub fn frame_write(slot: &mut [u8], object: &[u8]) -> u64 {
-    unsafe { wentuhoro_frame_write(slot.as_mut_ptr(), slot.len(), object.as_ptr(), object.len()) }
+    unsafe { raw::wentuhoro_frame_write(slot.as_mut_ptr(), slot.len(), object.as_ptr(), object.len()) }
 }
 
 pub fn frame_read(slot: &[u8]) -> Option<u64> {
     let mut length = [0];
-    let status = unsafe { wentuhoro_frame_read(slot.as_ptr(), slot.len(), length.as_mut_ptr(), 1) };
+    let status = unsafe { raw::wentuhoro_frame_read(slot.as_ptr(), slot.len(), length.as_mut_ptr(), 1) };
     (status == 0).then_some(length[0])
+}
+
+/// The updates of a batch, and room for its locations.
+#[derive(Clone)]
+pub struct Batch {
+    pub ids: Vec<u64>,
+    pub stores: Vec<bool>,
+    pub lengths: Vec<u64>,
+    pub placed: Vec<u64>,
+}
+
+impl Batch {
+    pub fn stores(ids: impl IntoIterator<Item = u64>, length: impl Fn(usize) -> u64) -> Batch {
+        let ids: Vec<u64> = ids.into_iter().collect();
+        let count = ids.len();
+        Batch { ids, stores: vec![true; count], lengths: (0..count).map(length).collect(), placed: vec![0; count] }
+    }
+
+    pub fn frees(ids: impl IntoIterator<Item = u64>) -> Batch {
+        let batch = Batch::stores(ids, |_| 0);
+        Batch { stores: vec![false; batch.ids.len()], ..batch }
+    }
+}
+
+pub struct Ours {
+    pub ids: usize,
+    pub slots: usize,
+    pub id_marks: Vec<u8>,
+    pub locations: Vec<u64>,
+    pub slot_marks: Vec<u8>,
+    pub owners: Vec<u64>,
+    pub batch: Vec<u64>,
+    pub tallies: Vec<u64>,
+    pub moved: (Vec<u64>, Vec<u64>),
+}
+
+macro_rules! lend {
+    ($store:ident, $call:ident: $($table:ident),* $(; $($word:expr),*)?) => {{
+        let status = unsafe { raw::$call($store.ids, $store.slots, $($store.$table.as_mut_ptr(), $store.$table.len(),)* $($($word),*)?) };
+        assert_eq!(status, 0, stringify!($call));
+    }};
+}
+
+impl Ours {
+    pub fn new(ids: usize, slots: usize) -> Ours {
+        let mut store = Ours {
+            ids,
+            slots,
+            id_marks: vec![0; ids],
+            locations: vec![0; ids],
+            slot_marks: vec![0; 78 * slots],
+            owners: vec![0; 78 * slots],
+            batch: vec![0; 513],
+            tallies: vec![0; 473],
+            moved: (vec![0; ids - 1], vec![0; ids - 1]),
+        };
+        store.fresh();
+        store
+    }
+
+    pub fn fresh(&mut self) {
+        lend!(self, wentuhoro_fresh: id_marks, locations, slot_marks, owners, batch, tallies);
+    }
+
+    pub fn rebuild(&mut self, ids: &[u64], locations: &[u64]) {
+        lend!(self, wentuhoro_rebuild: id_marks, locations, slot_marks, owners, batch, tallies;
+            ids.as_ptr(), ids.len(), locations.as_ptr(), locations.len());
+    }
+
+    pub fn new_id(&mut self) -> u64 {
+        let mut id = 0;
+        lend!(self, wentuhoro_new_id: id_marks, batch, tallies; &mut id, 1);
+        id
+    }
+
+    pub fn lookup(&mut self, id: u64) -> u64 {
+        let mut location = 0;
+        lend!(self, wentuhoro_lookup: id_marks, locations, slot_marks, owners, tallies; id, &mut location, 1);
+        location
+    }
+
+    pub fn offer(&mut self, batch: &mut Batch) {
+        let count = batch.ids.len();
+        lend!(self, wentuhoro_offer: id_marks, locations, slot_marks, owners, batch, tallies;
+            batch.ids.as_ptr(), count, batch.stores.as_ptr(), count, batch.lengths.as_ptr(), count, batch.placed.as_mut_ptr(), count);
+    }
+
+    pub fn commit(&mut self) {
+        lend!(self, wentuhoro_commit: id_marks, locations, slot_marks, owners, batch, tallies);
+    }
+
+    pub fn abandon(&mut self) {
+        lend!(self, wentuhoro_abandon: slot_marks, batch, tallies);
+    }
+
+    pub fn release(&mut self) {
+        lend!(self, wentuhoro_release: id_marks, slot_marks, batch, tallies);
+    }
+
+    pub fn stats(&mut self) -> [u64; 4] {
+        let mut sums = [0; 4];
+        lend!(self, wentuhoro_stats: tallies; sums.as_mut_ptr(), 4);
+        sums
+    }
+
+    pub fn counters(&mut self) -> [u64; 158] {
+        let mut pairs = [0; 158];
+        let (granted, freed) = pairs.split_at_mut(79);
+        lend!(self, wentuhoro_counters: tallies; granted.as_mut_ptr(), 79, freed.as_mut_ptr(), 79);
+        pairs
+    }
+
+    /// How many rows are listed, in `moved`.
+    pub fn defrag(&mut self, ratio: f32) -> usize {
+        let mut count = 0;
+        lend!(self, wentuhoro_defrag: locations, slot_marks, owners, batch, tallies;
+            ratio, self.moved.0.as_mut_ptr(), self.moved.0.len(), self.moved.1.as_mut_ptr(), self.moved.1.len(), &mut count, 1);
+        count as usize
+    }
+
+    pub fn truncation(&mut self, slab: u64) -> [u64; 3] {
+        let mut cut = [0; 3];
+        lend!(self, wentuhoro_truncation: slot_marks, batch, tallies; slab, 80, cut.as_mut_ptr(), 3);
+        cut
+    }
+
+    pub fn cut_done(&mut self, slab: u64) {
+        lend!(self, wentuhoro_cut_done: slot_marks, batch, tallies; slab, 80);
+    }
 }
