@@ -1,4 +1,7 @@
-"""The Rust beside the model: lines to the driver with the answers that the model expects, and what differs."""
+"""The Rust beside the model: lines to the driver with the answers that the model expects, and what differs.
+
+Where ORACLE_LIBRARY names the library's driver, the same lines go there too.
+"""
 
 import os
 import subprocess
@@ -6,15 +9,28 @@ import sys
 
 HERE = os.path.dirname(os.path.abspath(__file__))
 DRIVER = os.environ.get("ORACLE_DRIVER", os.path.join(HERE, "..", "rust", "target", "release", "oracle"))
+LIBRARY = os.environ.get("ORACLE_LIBRARY")
 CHUNK = 200_000
 
+# What the library answers where the Rust has an error or an assert.
+REFUSED = (
+    ("error InvalidData crc mismatch", "refused 4 0"), ("error InvalidData encountered corrupted", "refused 4 0"),
+    ("error InvalidData encountered unknown version", "refused 6 0"), ("error Unsupported", "refused 7 0"),
+    ("error UnexpectedEof", "refused 1 0"), ("panic assertion failed: len + overhead_for_size", "refused 5 0"),
+)
 
-def ask(mode, lines):
-    """The driver's answers to these lines, in order."""
-    result = subprocess.run([DRIVER, mode], input="\n".join(lines) + "\n", capture_output=True, text=True, check=True)
+
+def ask(mode, lines, driver=None):
+    """The driver's answers to these lines, in order. The mode may have capacities and t behind it, which the Rust passes over."""
+    command = [driver or DRIVER, *mode.split()]
+    result = subprocess.run(command, input="\n".join(lines) + "\n", capture_output=True, text=True, check=True)
     answers = result.stdout.split("\n")[:-1]
     assert len(answers) == len(lines), f"{len(lines)} lines, {len(answers)} answers"
     return answers
+
+
+def library_says(answer):
+    return next((words for begin, words in REFUSED if answer.startswith(begin)), answer)
 
 
 def out_of_order(threads, batches):
@@ -30,8 +46,9 @@ class Beside:
     A chunk ends only where a history begins, since every driver process starts with a fresh store.
     """
 
-    def __init__(self, mode):
+    def __init__(self, mode, library=True):
         self.mode = mode
+        self.library = LIBRARY if library else None
         self.lines, self.expected = [], []
         self.compared = 0
         self.differences = []
@@ -48,12 +65,17 @@ class Beside:
     def finish(self):
         if not self.lines:
             return
-        answers = ask(self.mode, self.lines)
-        for at, (line, model, rust) in enumerate(zip(self.lines, self.expected, answers)):
-            if model is not None and model != rust:
-                self.differences.append((self.history(at), line, model, rust))
-        self.compared += sum(model is not None for model in self.expected)
+        self.compare("rust", ask(self.mode, self.lines), self.expected)
+        if self.library:
+            said = [None if model is None else library_says(model) for model in self.expected]
+            self.compare("library", ask(self.mode, self.lines, self.library), said)
         self.lines, self.expected = [], []
+
+    def compare(self, whose, answers, expected):
+        for at, (line, model, answer) in enumerate(zip(self.lines, expected, answers)):
+            if model is not None and model != answer:
+                self.differences.append((self.history(at), line, model, f"({whose}) {answer}"))
+        self.compared += sum(model is not None for model in expected)
 
     def history(self, at):
         """The calls since the store was last fresh or rebuilt; empty for a leaf."""
@@ -63,7 +85,7 @@ class Beside:
 
 
 def show(differences, most=3):
-    for history, line, model, rust in sorted(differences, key=lambda found: len(found[0]))[:most]:
+    for history, line, model, other in sorted(differences, key=lambda found: len(found[0]))[:most]:
         print("  differs after:", *(f"    {earlier[:300]}" for earlier in history[-60:]), sep="\n")
-        print(f"  call:  {line[:600]}\n  model: {model[:1200]}\n  rust:  {rust[:1200]}")
+        print(f"  call:  {line[:600]}\n  model: {model[:1200]}\n  other: {other[:1200]}")
     sys.stdout.flush()

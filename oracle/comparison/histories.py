@@ -44,7 +44,7 @@ class History:
         self.file_lengths = {}
         self.refusals = 0
         beside.begin()
-        beside.call("fresh", "ok")
+        beside.call(f"fresh {ids} {slots}", "ok")
 
     def on_model(self, make_call):
         """The model's answer; a refusal leaves the store as it was."""

@@ -13,7 +13,7 @@ class Large:
     def __init__(self, beside):
         self.beside = beside
         self.store = Store(LARGEST_CAPACITY, LARGEST_CAPACITY)
-        beside.call("fresh", "ok")
+        beside.call(f"fresh {LARGEST_CAPACITY} {LARGEST_CAPACITY}", "ok")
 
     def batch(self, rows):
         answer = self.store.offer(*zip(*rows))

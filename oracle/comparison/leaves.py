@@ -4,7 +4,7 @@ import model
 from model import SLABS, SLAB_SIZES, refused
 
 from comparison import spoken
-from comparison.beside import Beside, ask
+from comparison.beside import Beside, ask, library_says
 from comparison.histories import OTHER_CLASS_IN_RUST
 
 # Beyond this a slot is not built in memory for the comparison.
@@ -177,7 +177,12 @@ def run(chance):
 
 def compare_errors(beside, errors):
     """Where the Rust's words go on after the part that tells one error from another."""
-    for (line, model_says), rust in zip(errors, ask("mapper", [line for line, _ in errors])):
+    lines = [line for line, _ in errors]
+    for (line, model_says), rust in zip(errors, ask("mapper", lines)):
         if not (rust == model_says or (model_says != "ok" and rust.startswith(model_says))):
             beside.differences.append(([], line, model_says, rust))
     beside.compared += len(errors)
+    if beside.library:
+        beside.lines = lines
+        beside.compare("library", ask("mapper", lines, beside.library), [library_says(model_says) for _, model_says in errors])
+        beside.lines = []

@@ -99,7 +99,7 @@ def reading_calls(store):
 
 def run(lengths, on_files=False):
     """(states, answers compared, differences)"""
-    beside = Beside("heap" if on_files else "mapper")
+    beside = Beside(f"{'heap' if on_files else 'mapper'} {IDS} {SLOTS}")
     calls = list(changing_calls(lengths, on_files))
     reached = set()
     waiting = deque()

@@ -38,7 +38,8 @@ def ask_about(beside, rows, t):
 def run(chance, limit, passes, t=T_OF_THE_RUST):
     """Every tip and high mark below the limit in some slab, then random ones in all slabs at once. Empty files cost
     nothing, so slots of 16 GiB are compared too."""
-    beside = Beside("heap")
+    # Each line makes tables of its own on the library's side.
+    beside = Beside(f"heap 2 1 {t}")
     compared = 0
     pairs = [(tip, high) for tip in range(1, limit) for high in range(limit)]
     for first in range(0, len(pairs), SLABS):

@@ -71,7 +71,7 @@ impl Both {
     }
 
     pub fn heap(ids: u64, slots: u64) -> Both {
-        let (rust, ours) = (Box::new(HeapStore::new()), Box::new(OurHeap::new(ids as usize, slots as usize)));
+        let (rust, ours) = (Box::new(HeapStore::new()), Box::new(OurHeap::new(ids as usize, slots as usize, 80)));
         Both { rust, ours, ids, slots, history: vec![Call::Fresh.line(ids, slots)] }
     }
 

@@ -175,7 +175,7 @@ pub fn cutoffs(counts: &mut Counts, chance: &mut Chance, limit: u64) {
 
 /// `write_batch`'s own pass over real files, for tips and high marks in all slabs at once.
 pub fn truncations(counts: &mut Counts, chance: &mut Chance, passes: u64) {
-    let (mut rust, mut ours) = (HeapStore::new(), OurHeap::new(2, 1));
+    let (mut rust, mut ours) = (HeapStore::new(), OurHeap::new(2, 1, 80));
     for pass in 0..passes {
         let most = if pass % 10 == 9 { 65_536 } else { 256 };
         let rows: Vec<String> = (0..78)

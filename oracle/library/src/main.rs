@@ -1,7 +1,7 @@
 //! The exported library beside the original Rust.
 //!
 //!     library mapper [IDS SLOTS]     the oracle's lines (oracle/README.md), answered by the library
-//!     library heap [IDS SLOTS]       the same with slots, in memory in place of files
+//!     library heap [IDS SLOTS [T]]   the same with slots, in memory in place of files
 //!     library morning                the refill on standard input; prints where each object went
 //!     library compare [HISTORIES [SEED]]
 //!                                    both sides in this process, call by call
@@ -68,7 +68,7 @@ fn main() {
     let capacities = (number(1, 65_536) as usize, number(2, 65_536) as usize);
     match mode {
         "mapper" => answer_lines(ours::Ours::new(capacities.0, capacities.1)),
-        "heap" => answer_lines(our_heap::OurHeap::new(capacities.0, capacities.1)),
+        "heap" => answer_lines(our_heap::OurHeap::new(capacities.0, capacities.1, number(3, 80))),
         "morning" => our_heap::print_morning(),
         "compare" => std::process::exit(both::compare(number(1, 100_000), number(2, 1))),
         _ => panic!("modes: mapper, heap, morning, compare"),

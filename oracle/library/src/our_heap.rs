@@ -8,13 +8,11 @@ use crate::words::{hex, Words};
 use crate::Store;
 use wentuhoro::{Slab, SLAB_SIZES};
 
-/// The Rust's FILE_TARGET_FILL_RATIO.
-const T: u64 = 80;
-
 pub struct OurHeap {
     pub ours: Ours,
     slots: HashMap<(usize, u64), Vec<u8>>,
     file_lengths: [u64; SLABS],
+    t: u64,
 }
 
 fn address(location: u64) -> (usize, u64) {
@@ -22,11 +20,11 @@ fn address(location: u64) -> (usize, u64) {
 }
 
 /// A truncation of every slab, each cut reported: files cut, bytes given back.
-fn cut_all(tables: &mut Tables, file_lengths: &mut [u64; SLABS]) -> Result<(u64, u64), Refused> {
+fn cut_all(tables: &mut Tables, file_lengths: &mut [u64; SLABS], t: u64) -> Result<(u64, u64), Refused> {
     let (mut cuts, mut given_back) = (0, 0);
     for slab in 0..SLABS {
-        if let Some((length, back)) = tables.truncation(slab as u64, T)? {
-            tables.cut_done(slab as u64, T)?;
+        if let Some((length, back)) = tables.truncation(slab as u64, t)? {
+            tables.cut_done(slab as u64, t)?;
             file_lengths[slab] = length;
             cuts += 1;
             given_back += back;
@@ -36,8 +34,9 @@ fn cut_all(tables: &mut Tables, file_lengths: &mut [u64; SLABS]) -> Result<(u64,
 }
 
 impl OurHeap {
-    pub fn new(ids: usize, slots: usize) -> OurHeap {
-        OurHeap { ours: Ours::new(ids, slots), slots: HashMap::new(), file_lengths: [0; SLABS] }
+    /// `t` is 80 in the Rust: its FILE_TARGET_FILL_RATIO.
+    pub fn new(ids: usize, slots: usize, t: u64) -> OurHeap {
+        OurHeap { ours: Ours::new(ids, slots), slots: HashMap::new(), file_lengths: [0; SLABS], t }
     }
 
     fn write(&mut self, update: &Update, location: u64) {
@@ -56,7 +55,7 @@ impl OurHeap {
         let stores = || batch.iter().zip(&placed).filter(|(update, _)| update.store);
         stores().for_each(|(update, location)| self.write(update, *location));
         self.ours.tables.commit()?;
-        let (cuts, given_back) = cut_all(&mut self.ours.tables, &mut self.file_lengths)?;
+        let (cuts, given_back) = cut_all(&mut self.ours.tables, &mut self.file_lengths, self.t)?;
         let written = stores().map(|(update, _)| update.length).sum();
         let mut files: Vec<usize> = stores().map(|(_, location)| address(*location).0).collect();
         files.sort_unstable();
@@ -89,7 +88,7 @@ impl OurHeap {
             tables.tallies.values_mut()[HIGH + *slab as usize] = *high;
             file_lengths[*slab as usize] = tip.max(&(high + 1)) * SLAB_SIZES[*slab as usize];
         }
-        let (cuts, given_back) = cut_all(&mut tables, &mut file_lengths)?;
+        let (cuts, given_back) = cut_all(&mut tables, &mut file_lengths, self.t)?;
         self.ours.tables.broken = tables.broken.take();
         let after = |slab: u64| [file_lengths[slab as usize], tables.tallies.values()[HIGH + slab as usize]];
         Ok(ok([cuts, given_back].into_iter().chain(rows.iter().flat_map(|(slab, ..)| after(*slab)))))
