@@ -24,9 +24,11 @@ impl Picture {
         let width = LEFT + DOUBLING * (DOUBLINGS_BELOW + DOUBLINGS_ABOVE) + 60.0;
         let one = LEFT + DOUBLING * DOUBLINGS_BELOW;
         let place = |ratio: f64| one + DOUBLING * ratio.log2().clamp(-DOUBLINGS_BELOW, DOUBLINGS_ABOVE);
-        let mut svg = format!("<svg xmlns=\"http://www.w3.org/2000/svg\" width=\"{width}\" height=\"{height}\" font-family=\"sans-serif\" font-size=\"12\">\n");
+        let size = format!("width=\"{width}\" height=\"{height}\"");
+        let mut svg = format!("<svg xmlns=\"http://www.w3.org/2000/svg\" {size} font-family=\"sans-serif\" font-size=\"12\">\n");
         writeln!(svg, "<rect width=\"100%\" height=\"100%\" fill=\"white\"/>").unwrap();
-        writeln!(svg, "<text x=\"10\" y=\"20\" font-size=\"14\">The Rust's time over ours. Right of 1: ours is the faster.</text>").unwrap();
+        let title = "The Rust's time over ours. Right of 1: ours is the faster. A bar ends at 1/16 and at 64.";
+        writeln!(svg, "<text x=\"10\" y=\"20\" font-size=\"14\">{title}</text>").unwrap();
         for power in -(DOUBLINGS_BELOW as i32)..=DOUBLINGS_ABOVE as i32 {
             let (x, label) = (place(2f64.powi(power)), if power < 0 { format!("1/{}", 1 << -power) } else { format!("{}", 1 << power) });
             let shade = if power == 0 { "black" } else { "#ddd" };

@@ -35,6 +35,14 @@ impl Table<'_> {
     }
 }
 
+/// 65279 as 65,279.
+fn told(number: usize) -> String {
+    match number {
+        0..=999 => number.to_string(),
+        _ => format!("{},{:03}", told(number / 1_000), number % 1_000),
+    }
+}
+
 /// Chances that are the same in every run.
 struct Chance(u64);
 
@@ -102,7 +110,14 @@ impl Pairs {
         Pairs((0..count).map(|_| (Best::new(), Best::new())).collect())
     }
 
-    fn of<T: PartialEq + std::fmt::Debug>(&mut self, at: usize, both: &mut Both, ours: impl FnOnce(&mut Ours) -> T, rust: impl FnOnce(&mut Original) -> T) -> T {
+    /// One thing done on both sides, with the same answer.
+    fn of<T: PartialEq + std::fmt::Debug>(
+        &mut self,
+        at: usize,
+        both: &mut Both,
+        ours: impl FnOnce(&mut Ours) -> T,
+        rust: impl FnOnce(&mut Original) -> T,
+    ) -> T {
         let answer = self.0[at].0.of(|| ours(&mut both.ours));
         assert_eq!(answer, self.0[at].1.of(|| rust(&mut both.rust)));
         answer
@@ -131,7 +146,7 @@ fn batches(rounds: u32, picture: &mut Picture) {
         }
         for (at, call) in ["offer", "commit", "release"].into_iter().enumerate() {
             let (ours, rust) = pairs.each(at, BATCH);
-            table.row(&format!("{call}, {objects} held"), ours, rust);
+            table.row(&format!("{call}, {} held", told(objects)), ours, rust);
         }
     }
 }
@@ -153,15 +168,15 @@ fn allocation(rounds: u32, picture: &mut Picture) {
         }
         for (at, what) in ["released, an id and a slot", "new id from 256 freed", "slot from 256 freed, offered"].into_iter().enumerate() {
             let (ours, rust) = pairs.each(at, BATCH);
-            table.row(&format!("{what}, {objects} held"), ours, rust);
+            table.row(&format!("{what}, {} held", told(objects)), ours, rust);
         }
     }
     let mut pairs = Pairs::new(2);
     for _ in 0..rounds.div_ceil(8) {
         let mut both = Both::new(CAPACITY, CAPACITY);
-        let last = pairs.of(0, &mut both, |ours| (1..CAPACITY).map(|_| ours.new_id()).last(), |rust| (1..CAPACITY).map(|_| rust.new_id()).last());
-        assert_eq!(last, Some(65_535));
-        let mut fill: Vec<Batch> = (1..CAPACITY as u64).collect::<Vec<_>>().chunks(BATCH).map(|ids| Batch::stores(ids.iter().copied(), |_| 3)).collect();
+        let fill_ids = |new_id: &mut dyn FnMut() -> u64| (1..CAPACITY).map(|_| new_id()).collect::<Vec<u64>>();
+        let ids = pairs.of(0, &mut both, |ours| fill_ids(&mut || ours.new_id()), |rust| fill_ids(&mut || rust.new_id()));
+        let mut fill: Vec<Batch> = ids.chunks(BATCH).map(|ids| Batch::stores(ids.iter().copied(), |_| 3)).collect();
         let mut again = fill.clone();
         pairs.of(
             1, &mut both,
@@ -187,7 +202,7 @@ fn few_slabs(rounds: u32, picture: &mut Picture) {
             pairs.of(0, &mut both, Ours::release, Original::release);
         }
         let (ours, rust) = pairs.each(0, 1);
-        table.row(&format!("capacities of {capacity}"), ours, rust);
+        table.row(&format!("capacities of {}", told(capacity)), ours, rust);
     }
 }
 
@@ -201,7 +216,7 @@ fn lookups(rounds: u32, picture: &mut Picture) {
         let mut a = |calls| (0..calls).for_each(|_| ids.iter().for_each(|id| { black_box(ours.lookup(*id)); }));
         let mut b = |calls| (0..calls).for_each(|_| ids.iter().for_each(|id| { black_box(rust.lookup(*id)); }));
         let t = best(rounds, 10, &mut [&mut a, &mut b]);
-        table.row(&format!("{objects} held"), t[0] / 1_024.0, t[1] / 1_024.0);
+        table.row(&format!("{} held", told(objects)), t[0] / 1_024.0, t[1] / 1_024.0);
     }
 }
 
@@ -215,12 +230,12 @@ fn defrag(rounds: u32, picture: &mut Picture) {
     let half: (Vec<u64>, Vec<u64>) = (0..CAPACITY as u64 / 2).map(|at| (at + 1, (1 << 56) + 2 * at + 1)).unzip();
     let mut half_empty = Both { ours: Ours::new(CAPACITY, CAPACITY), rust: Original::new(&Original::rows(&half.0, &half.1), RATIO) };
     half_empty.ours.rebuild(&half.0, &half.1);
-    for (what, both) in [("78 full slabs of 65,536", &mut full), ("one slab of 65,536, every second slot free", &mut half_empty)] {
+    for (what, both) in [("78 full slabs of 65,536", &mut full), ("a slab of 65,536, half empty", &mut half_empty)] {
         let mut pairs = Pairs::new(1);
         let mut rows = 0;
         (0..rounds).for_each(|_| rows = pairs.of(0, both, |ours| ours.defrag(RATIO), Original::defrag));
         let (ours, rust) = pairs.each(0, 1);
-        table.row(&format!("{what}: {rows} rows"), ours, rust);
+        table.row(&format!("{what}: {} rows", told(rows)), ours, rust);
     }
 }
 
@@ -247,7 +262,7 @@ fn rebuild(rounds: u32, picture: &mut Picture) {
 fn fixed_costs(rounds: u32, picture: &mut Picture) {
     let mut table = Table::new(picture, "each call on a store of 64 ids and 64 slots", "ns a call");
     let mut both = Both::with(64, 64, 32, |_| 3);
-    let mut pairs = Pairs::new(6);
+    let mut pairs = Pairs::new(5);
     for at in 0..rounds * 50 {
         let one = Batch::stores([1 + u64::from(at) % 32], |_| 3);
         offered(&mut pairs, 0, &mut both, &mut one.clone());
@@ -257,9 +272,8 @@ fn fixed_costs(rounds: u32, picture: &mut Picture) {
         let id = pairs.of(4, &mut both, Ours::new_id, Original::new_id);
         both.batch(&mut Batch::frees([id]));
         both.release();
-        pairs.of(5, &mut both, |ours| ours.lookup(7), |rust| rust.lookup(7));
     }
-    let names = ["offer of one", "commit of one", "release of one", "release of none", "new id", "lookup"];
+    let names = ["offer of one", "commit of one", "release of one", "release of none", "new id"];
     for (at, name) in names.into_iter().enumerate() {
         let (ours, rust) = pairs.each(at, 1);
         table.row(name, ours, rust);

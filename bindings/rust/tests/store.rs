@@ -1,0 +1,72 @@
+//! The store through the crate: what the examples in its documentation leave out.
+use wentuhoro::{AllocatorStats, RefusalKind, SlabAddress, Store, Update};
+
+fn store(id: u64, length: u64) -> Update {
+    Update::Store { id, length }
+}
+
+fn refusal<T: std::fmt::Debug>(answer: Result<T, wentuhoro::Refusal>) -> (RefusalKind, usize) {
+    let refusal = answer.unwrap_err();
+    (refusal.kind, refusal.index)
+}
+
+#[test]
+fn capacities_are_judged_before_tables_are_made() {
+    for (ids, slots) in [(0, 8), (1, 8), (65_537, 8), (usize::MAX, 8), (9, 0), (9, 65_537), (9, usize::MAX)] {
+        assert_eq!(refusal(Store::new(ids, slots)), (RefusalKind::WrongShape, 0));
+    }
+    assert!(Store::new(2, 1).is_ok());
+    assert!(Store::new(65_536, 65_536).is_ok());
+}
+
+#[test]
+fn an_abandoned_batch_leaves_no_trace_but_in_the_counters() {
+    let mut kept = Store::new(9, 8).unwrap();
+    let id = kept.allocate_object_id().unwrap();
+    let mut abandoned = kept.clone();
+    abandoned.offer(&[store(id, 3)]).unwrap();
+    assert_eq!(refusal(abandoned.allocate_object_id()), (RefusalKind::BatchOpen, 0));
+    abandoned.abandon().unwrap();
+    assert_eq!(refusal(abandoned.abandon()), (RefusalKind::NoBatch, 0));
+    assert_eq!(abandoned.offer(&[store(id, 3)]), kept.offer(&[store(id, 3)]));
+    abandoned.commit().unwrap();
+    let all = AllocatorStats { objects_allocated: 2, objects_freed: 0, heap_slots_allocated: 2, heap_slots_freed: 1 };
+    assert_eq!(abandoned.stats(), all);
+    assert_eq!(abandoned.counters()[..2], [(2, 0), (2, 1)]);
+}
+
+#[test]
+fn batches_are_refused_with_the_updates_index() {
+    let mut small = Store::new(4, 1).unwrap();
+    let ids: Vec<u64> = (0..3).map(|_| small.allocate_object_id().unwrap()).collect();
+    assert_eq!(refusal(small.allocate_object_id()), (RefusalKind::NoneFree, 0));
+    assert_eq!(refusal(small.offer(&[store(1, 3), Update::Free { id: 4 }])), (RefusalKind::NoSuchId, 1));
+    assert_eq!(refusal(small.offer(&[store(1, 3), store(2, 1 << 40)])), (RefusalKind::TooLarge, 1));
+    assert_eq!(refusal(small.offer(&[store(1, 3), store(2, 60), store(3, 61)])), (RefusalKind::NoneFree, 1));
+    assert_eq!(refusal(small.offer(&vec![Update::Free { id: 1 }; 257])), (RefusalKind::TooMany, 0));
+    let placed = small.offer(&[store(ids[0], 3), Update::Free { id: ids[1] }]).unwrap();
+    assert_eq!(placed, [Some(SlabAddress::from_slab_slot(0, 0).unwrap()), None]);
+}
+
+#[test]
+fn rows_are_refused_with_the_rows_index_and_change_nothing() {
+    let mut rebuilt = Store::new(9, 8).unwrap();
+    let at = |slot| SlabAddress::from_slab_slot(3, slot).unwrap();
+    rebuilt.rebuild(&[(5, at(1)), (2, at(7))]).unwrap();
+    let live = [(2, at(7)), (5, at(1))];
+    assert_eq!(rebuilt.live(), live);
+    for (rows, expected) in [
+        (vec![(1, at(0)), (9, at(1))], (RefusalKind::NoSuchId, 1)),
+        (vec![(1, at(0)), (1, at(1))], (RefusalKind::RepeatedId, 1)),
+        (vec![(1, at(8))], (RefusalKind::OutOfRange, 0)),
+        (vec![(1, at(0)), (2, at(0))], (RefusalKind::RepeatedLocation, 1)),
+    ] {
+        assert_eq!(refusal(rebuilt.rebuild(&rows)), expected);
+        assert_eq!(rebuilt.live(), live);
+    }
+    assert_eq!(refusal(rebuilt.objects_to_defrag(0.0)), (RefusalKind::RatioOutOfRange, 0));
+    assert_eq!(refusal(rebuilt.truncation(78, 80)), (RefusalKind::OutOfRange, 0));
+    assert_eq!(refusal(rebuilt.cut_done(3, 80)), (RefusalKind::NothingToCut, 0));
+    rebuilt.fresh();
+    assert_eq!((rebuilt.live(), rebuilt.stats()), (vec![], AllocatorStats::default()));
+}
