@@ -151,7 +151,8 @@ static uint64_t good_location(void) { return (ONE_OF(0, 0, 1, 77) + 1) * (UINT64
 
 static uint64_t any_location(void) {
     uint64_t slab = ONE_OF(0, 0, 1, 77, 78, 254), slot = ONE_OF(0, 1, true_slots - 1, true_slots, UINT64_C(1) << 55);
-    return in_hundred(60) ? good_location() : ONE_OF(0, 0, (slab + 1) * (UINT64_C(1) << 56) + slot, UINT64_MAX, (UINT64_C(1) << 56) - 1, 1);
+    if (in_hundred(60)) return good_location();
+    return ONE_OF(0, 0, (slab + 1) * (UINT64_C(1) << 56) + slot, UINT64_MAX, (UINT64_C(1) << 56) - 1, 1);
 }
 
 static void fill_marks(struct slice *s) {
@@ -229,7 +230,8 @@ static uint64_t store_call(enum call call) {
     struct slice *im = NULL, *lo = NULL, *sm = NULL, *ow = NULL, *ba = NULL, *ta;
     if (has_ids) fill_marks(im = lend_near(1, true_ids, writes_all || call == NEW_ID || call == RELEASE));
     if (located) fill_locations(lo = lend_near(8, true_ids, writes_all));
-    if (has_slots) fill_marks(sm = lend_near(1, WENTUHORO_SLABS * true_slots, writes_all || call == OFFER || call == ABANDON || call == RELEASE));
+    bool writes_slots = writes_all || call == OFFER || call == ABANDON || call == RELEASE;
+    if (has_slots) fill_marks(sm = lend_near(1, WENTUHORO_SLABS * true_slots, writes_slots));
     if (located) fill_owners(ow = lend_near(8, WENTUHORO_SLABS * true_slots, writes_all));
     if (has_batch) fill_batch(ba = lend_near(8, WENTUHORO_BATCH_WORDS, writes_all || call == OFFER || call == ABANDON));
     bool counts_only = call == LOOKUP || call == STATS || call == COUNTERS || call == DEFRAG;
@@ -467,6 +469,20 @@ static void one_case(bool large) {
     if (!large && poll(&out, 1, 0) == 1 && (out.revents & POLLOUT) != 0) tell(call, status);
 }
 
+/* The header's sizes are the library's: the longest object of each slab is of that class, one byte more is not. */
+static void check_sizes(void) {
+    for (uint64_t slab = 0; slab < WENTUHORO_SLABS; slab++) {
+        uint64_t size = wentuhoro_slab_size((size_t)slab), field = size <= 255 ? 1 : size <= 65535 ? 2 : size <= UINT32_MAX ? 4 : 8;
+        uint64_t room = size - field - 4, of_room = 0, of_more = slab + 1;
+        wentuhoro_class(room, &of_room, 1);
+        wentuhoro_class(room + 1, &of_more, 1);
+        if (of_room != slab || of_more != slab + 1) {
+            fprintf(stderr, "slab %" PRIu64 " has another size in the header\n", slab);
+            exit(1);
+        }
+    }
+}
+
 static double now(void) {
     struct timespec at;
     clock_gettime(CLOCK_MONOTONIC, &at);
@@ -476,6 +492,7 @@ static double now(void) {
 int main(int argc, char **argv) {
     double seconds = argc > 1 ? atof(argv[1]) : 10;
     seed = argc > 2 ? strtoull(argv[2], NULL, 10) : 1;
+    check_sizes();
     make_regions();
     uint64_t cases = 0, missing = 0;
     for (double begun = now(); now() - begun < seconds;)
@@ -489,7 +506,7 @@ int main(int argc, char **argv) {
         }
         fprintf(stderr, "\n");
     }
-    fprintf(stderr, "%" PRIu64 " cases, %" PRIu64 " told for judging: no byte written that may not be; %" PRIu64 " listed answers never given\n", cases,
-            judged, missing);
+    fprintf(stderr, "%" PRIu64 " cases, %" PRIu64 " told for judging: no byte written that may not be; ", cases, judged);
+    fprintf(stderr, "%" PRIu64 " listed answers never given\n", missing);
     return seconds >= 10 && missing > 0;
 }
