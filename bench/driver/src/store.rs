@@ -12,6 +12,8 @@ const BATCH: usize = 256;
 /// As many objects as leave room for one more batch.
 const FULL: usize = CAPACITY - 1 - BATCH;
 const RATIO: f32 = 0.75;
+/// Cycles before the first that is timed: a store that was just filled has its free slots in one run.
+const BEFORE: u32 = 8;
 
 struct Table<'a> {
     group: &'a str,
@@ -139,7 +141,10 @@ fn batches(rounds: u32, picture: &mut Picture) {
     for objects in [64 + BATCH, 4_096, FULL] {
         let mut both = Both::with(CAPACITY, CAPACITY, objects, |_| 3);
         let (mut pairs, mut chance) = (Pairs::new(3), Chance(objects as u64));
-        for _ in 0..rounds * 4 {
+        for cycle in 0..BEFORE + rounds * 4 {
+            if cycle == BEFORE {
+                pairs = Pairs::new(3);
+            }
             offered(&mut pairs, 0, &mut both, &mut Batch::stores(chance.some(BATCH, objects), |_| 3));
             pairs.of(1, &mut both, Ours::commit, Original::commit);
             pairs.of(2, &mut both, Ours::release, Original::release);
@@ -157,7 +162,10 @@ fn allocation(rounds: u32, picture: &mut Picture) {
     for objects in [4_096, FULL] {
         let mut both = Both::with(CAPACITY, CAPACITY, objects, |_| 3);
         let (mut pairs, mut chance) = (Pairs::new(3), Chance(objects as u64));
-        for _ in 0..rounds * 4 {
+        for cycle in 0..BEFORE + rounds * 4 {
+            if cycle == BEFORE {
+                pairs = Pairs::new(3);
+            }
             both.batch(&mut Batch::frees(chance.some(BATCH, objects)));
             pairs.of(0, &mut both, Ours::release, Original::release);
             let new_ids = |new_id: &mut dyn FnMut() -> u64| (0..BATCH).map(|_| new_id()).collect::<Vec<u64>>();
