@@ -28,7 +28,7 @@ pub(crate) fn tally(slabs: &[usize]) -> [u64; 78]
 }
 
 // Whether fewer than `asked` are free. Each search finds one more.
-fn lacks(marks: &[u8], hint: usize, asked: u64) -> bool
+fn lacks_few(marks: &[u8], hint: usize, asked: u64) -> bool
     ensures { λ r. ⌜ r ≡ ltb (countIf isFree (hinted hint (now (marks .entry)))) asked ⌝ }
 {
     let mut from: usize = 0;
@@ -42,6 +42,20 @@ fn lacks(marks: &[u8], hint: usize, asked: u64) -> bool
         left -= 1;
     }
     false
+}
+
+// From so many on it is quicker to count all that are free.
+const MANY: u64 = 16;
+
+// The same, of few or many.
+fn lacks(marks: &[u8], hint: usize, asked: u64) -> bool
+    ensures { λ r. ⌜ r ≡ ltb (countIf isFree (hinted hint (now (marks .entry)))) asked ⌝ }
+{
+    if asked < MANY {
+        return lacks_few(marks, hint, asked);
+    }
+    let free = marks.len() - id_allocator::live(marks, hint);
+    (free as u64) < asked
 }
 
 fn slab_lacks(slots: usize, slot_marks: &[u8], tallies: &[u64], slab: usize, asked: u64) -> bool
