@@ -10,6 +10,7 @@
 // says how every list of marks counts under every hint. The inner loops run over a whole slice, each turn like the others and
 // their results in a byte, so that the compiler makes vector instructions of them.
 ghost use mathlib.Core.Path.{_≡_};
+ghost use mathlib.Core.Bool.{false};
 ghost use mathlib.Core.List.{map};
 ghost use Prim.Native.Nat.{_<_, _≤_, min, max};
 ghost use lib.ListN.{length, getD, take, set};
@@ -27,7 +28,10 @@ pub const PENDING: u8 = 2;
 // As many marks as a count in a byte takes, in whole vectors.
 const PART: usize = 192;
 
-// Blocks that a search passes over whole, the wide ones first.
+// So many marks a search for a free one passes over at once: where some are free, the next one is near.
+const BLOCK: usize = 32;
+
+// Blocks that the search for the last taken one passes over, the wide ones first: the free ones above the tip are many.
 const WIDE: usize = 256;
 
 const MIDDLE: usize = 64;
@@ -46,19 +50,19 @@ fn larger(a: usize, b: usize) -> usize
     if a < b { b } else { a }
 }
 
-// The least mark, 255 of none: where it is not 0, none is free.
-fn least(marks: &[u8]) -> u8
-    ensures { λ r. ⌜ ((r ≡ 0 → ⊥) → firstFree (now (marks .entry)) ≡ length (now (marks .entry))) ⌝ }
+// Whether any is free.
+fn has_free(marks: &[u8]) -> bool
+    ensures { λ r. ⌜ (r ≡ false → firstFree (now (marks .entry)) ≡ length (now (marks .entry))) ⌝ }
 {
-    let mut m: u8 = 255;
+    let mut found = false;
     let mut i: usize = 0;
     while i < marks.len() {
-        if marks[i] < m {
-            m = marks[i];
+        if marks[i] == FREE {
+            found = true;
         }
         i += 1;
     }
-    m
+    found
 }
 
 // From `from` on, past the whole blocks of `width` in which none is free.
@@ -69,7 +73,7 @@ fn skip(marks: &[u8], from: usize, width: usize) -> usize
     let mut i = from;
     while marks.len() - i >= width {
         let end = i + width;
-        if least(&marks[i..end]) == FREE {
+        if has_free(&marks[i..end]) {
             return i;
         }
         i = end;
@@ -82,9 +86,7 @@ fn first_from(marks: &[u8], from: usize) -> usize
     requires { ⌜ from ≤ length (now marks) ⌝ }
     ensures { λ r. ⌜ r ≡ smallestFree from (now (marks .entry)) ⌝ }
 {
-    let far = skip(marks, from, WIDE);
-    let near = skip(marks, far, MIDDLE);
-    let mut i = skip(marks, near, NARROW);
+    let mut i = skip(marks, from, BLOCK);
     while i < marks.len() {
         if marks[i] == FREE {
             return i;

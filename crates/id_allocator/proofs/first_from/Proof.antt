@@ -10,22 +10,16 @@ use Rattle.id_allocator.proofs.first_from.Statement.{statement}
 use Rattle.id_allocator.proofs.first_from.Tie as tie
 
 abbrev Inv-loop : tie.InvT-loop
-Inv-loop marks from far near i₀ i = (i ≤ length marks) × (smallestFree from marks ≡ smallestFree i marks)
+Inv-loop marks from i₀ i = (i ≤ length marks) × (smallestFree from marks ≡ smallestFree i marks)
 
 abbrev μ-loop : tie.MeasureT-loop
-μ-loop marks from far near i₀ i = length marks - i
+μ-loop marks from i₀ i = length marks - i
 
 skip-requires : tie.Need-skip-requires Inv-loop μ-loop
 skip-requires c κs = search needs
 
-skip-requires-2 : tie.Need-skip-requires-2 Inv-loop μ-loop
-skip-requires-2 c κs = search needs
-
-skip-requires-3 : tie.Need-skip-requires-3 Inv-loop μ-loop
-skip-requires-3 c κs = search needs
-
 loop-holds : tie.Need-loop-holds Inv-loop μ-loop
-loop-holds c = (c .skip3 .ensures .0, c .before .before .skip .ensures .1 ∙ c .before .skip2 .ensures .1 ∙ c .skip3 .ensures .1)
+loop-holds c = c .skip .ensures
 
 shared-slice-read-if1 : tie.Need-shared-slice-read-if1 Inv-loop μ-loop
 shared-slice-read-if1 c = search needs
@@ -52,8 +46,6 @@ first-from-spec =
     Inv-loop
     μ-loop
     skip-requires
-    skip-requires-2
-    skip-requires-3
     loop-holds
     shared-slice-read-if1
     returns

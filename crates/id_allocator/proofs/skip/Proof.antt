@@ -26,17 +26,17 @@ sub-loop c = search needs
 add-end : tie.Need-add-end Inv-loop μ-loop
 add-end c = search needs
 
-sub-least : tie.Need-sub-least Inv-loop μ-loop
-sub-least c = search needs
+sub-has-free : tie.Need-sub-has-free Inv-loop μ-loop
+sub-has-free c = search needs
 
-part-least-start : tie.Need-part-least-start Inv-loop μ-loop
-part-least-start c = search needs
+part-has-free-start : tie.Need-part-has-free-start Inv-loop μ-loop
+part-has-free-start c = search needs
 
-part-least-end : tie.Need-part-least-end Inv-loop μ-loop
-part-least-end c = search needs
+part-has-free-end : tie.Need-part-has-free-end Inv-loop μ-loop
+part-has-free-end c = search needs
 
-least-requires : tie.Need-least-requires Inv-loop μ-loop
-least-requires c κs = search needs
+has-free-requires : tie.Need-has-free-requires Inv-loop μ-loop
+has-free-requires c κs = search needs
 
 returns : tie.Need-returns Inv-loop μ-loop
 returns c = c .before .before .before .before .loop .inv
@@ -49,7 +49,7 @@ loop-again c =
     let b = c .before .before .before .before in
     let a = b .before .before .args in
     let width : b .loop .i + a .width - b .loop .i ≡ a .width = omega arith in
-    let none = rw width at (c .before .least .ensures (c .if1 .left)) in
+    let none = rw width at (c .before .has-free .ensures (c .if1 .left)) in
     (search needs, b .loop .inv .1 ∙ smallestFree-skip (now (a .marks)) (b .loop .i) (a .width) (omega arith) none)
 
 returns-2 : tie.Need-returns-2 Inv-loop μ-loop
@@ -64,10 +64,10 @@ skip-spec =
     loop-holds
     sub-loop
     add-end
-    sub-least
-    part-least-start
-    part-least-end
-    least-requires
+    sub-has-free
+    part-has-free-start
+    part-has-free-end
+    has-free-requires
     returns
     loop-less
     loop-again
