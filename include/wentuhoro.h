@@ -114,6 +114,10 @@ uint64_t wentuhoro_pack(size_t slots, size_t slab, size_t slot, uint64_t *locati
 /* Three values: 1, slab, slot; or three zeros for a location of 0, no object. Refuses: 1, 3. */
 uint64_t wentuhoro_unpack(size_t slots, uint64_t location, uint64_t *address, size_t address_len);
 
+/* Two values: 1 and the first slot that may be moved out of a slab with so many live slots below its tip; or two zeros for nothing.
+ * Refuses: 1, 14. */
+uint64_t wentuhoro_fragmentation_cutoff(size_t live, size_t tip, float ratio, uint64_t *cutoff, size_t cutoff_len);
+
 /* ---- The store. Every call takes the capacities and those of the six tables that it uses. */
 
 /* A store that holds nothing; writes every word of the six tables. Refuses: 1. */

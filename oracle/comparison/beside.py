@@ -16,7 +16,7 @@ CHUNK = 200_000
 REFUSED = (
     ("error InvalidData crc mismatch", "refused 4 0"), ("error InvalidData encountered corrupted", "refused 4 0"),
     ("error InvalidData encountered unknown version", "refused 6 0"), ("error Unsupported", "refused 7 0"),
-    ("error UnexpectedEof", "refused 1 0"), ("panic assertion failed: len + overhead_for_size", "refused 5 0"),
+    ("error UnexpectedEof", "refused 1 0"), ("panic assertion failed: len + overhead_for_size", "refused 5 0"), ("asserted", "nothing"),
 )
 
 
@@ -46,9 +46,8 @@ class Beside:
     A chunk ends only where a history begins, since every driver process starts with a fresh store.
     """
 
-    def __init__(self, mode, library=True):
+    def __init__(self, mode):
         self.mode = mode
-        self.library = LIBRARY if library else None
         self.lines, self.expected = [], []
         self.compared = 0
         self.differences = []
@@ -66,9 +65,9 @@ class Beside:
         if not self.lines:
             return
         self.compare("rust", ask(self.mode, self.lines), self.expected)
-        if self.library:
+        if LIBRARY:
             said = [None if model is None else library_says(model) for model in self.expected]
-            self.compare("library", ask(self.mode, self.lines, self.library), said)
+            self.compare("library", ask(self.mode, self.lines, LIBRARY), said)
         self.lines, self.expected = [], []
 
     def compare(self, whose, answers, expected):

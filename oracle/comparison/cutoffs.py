@@ -50,8 +50,7 @@ def some_pair(chance):
 
 def run(chance, limit, random_pairs):
     """(answers compared, asserts of the Rust where the model says nothing, differences)"""
-    # The library has no call for a cutoff alone: `oracle/library/compare` reads it off defrag lists.
-    beside = Beside("mapper", library=False)
+    beside = Beside("mapper")
     asserts = 0
     for live, tip, bits in all_queries(chance, limit, random_pairs):
         beside.begin()

@@ -89,7 +89,7 @@ static const uint8_t *canaries(const struct slice *s) { return s->at == s->regio
 
 enum call {
     NEW_ID, LOOKUP, OFFER, COMMIT, ABANDON, RELEASE, FRESH, REBUILD, STATS, COUNTERS, DEFRAG, TRUNCATION, CUT_DONE,
-    CLASS, CRC32, CRC32_UPDATE, FRAME_WRITE, FRAME_READ, COOKIE_WRITE, COOKIE_READ, COOKIE_VERIFY, PACK, UNPACK, CALLS
+    CLASS, CRC32, CRC32_UPDATE, FRAME_WRITE, FRAME_READ, COOKIE_WRITE, COOKIE_READ, COOKIE_VERIFY, PACK, UNPACK, CUTOFF, CALLS
 };
 
 static const struct {
@@ -119,6 +119,7 @@ static const struct {
     {"cookie_verify", "\1\4\6\7"},
     {"pack", "\1\3"},
     {"unpack", "\1\3"},
+    {"fragmentation_cutoff", "\1\16"},
 };
 
 static uint64_t answered[CALLS][18]; /* by call and refusal, 0 for a grant */
@@ -395,6 +396,13 @@ static uint64_t leaf_call(enum call call) {
         a = lend_near(8, 3, true);
         keep_before();
         return wentuhoro_unpack(slots, numbers[1], P(a));
+    case CUTOFF:
+        number(ONE_OF(0, 1, below(200), below(65538), UINT64_MAX));
+        number(ONE_OF(0, 1, below(200), numbers[0] + below(200), 65536, 65537, UINT64_MAX));
+        float ratio = any_ratio();
+        a = lend_near(8, 2, true);
+        keep_before();
+        return wentuhoro_fragmentation_cutoff(numbers[0], numbers[1], ratio, P(a));
     default:
         abort();
     }

@@ -11,6 +11,7 @@ from model import ALLOCATORS, BATCH_WORDS, KEEP, SLABS, Refused, refused
 CALLS = (
     "new_id", "lookup", "offer", "commit", "abandon", "release", "fresh", "rebuild", "stats", "counters", "defrag", "truncation", "cut_done",
     "class", "crc32", "crc32_update", "frame_write", "frame_read", "cookie_write", "cookie_read", "cookie_verify", "pack", "unpack",
+    "fragmentation_cutoff",
 )
 
 TABLES = ("id_marks", "locations", "slot_marks", "owners", "batch", "tallies")
@@ -142,8 +143,19 @@ def leaf_call(case):
     if name == "pack":
         answer = wrong_values(1) or model.pack(*numbers)
         return answer, [[answer]]
-    answer = wrong_values(3) or model.unpack(*numbers)
-    return answer, [[0, 0, 0] if answer is None else [1, *answer]]
+    if name == "unpack":
+        answer = wrong_values(3) or model.unpack(*numbers)
+        return answer, [[0, 0, 0] if answer is None else [1, *answer]]
+    answer = wrong_values(2) or cutoff(*numbers)
+    return answer, [[0, 0] if answer is None else [1, answer]]
+
+
+def cutoff(live, tip, ratio_bits):
+    if tip > model.LARGEST_CAPACITY or live > tip:
+        return Refused(model.WRONG_LENGTH)
+    if not model.good_ratio(ratio_bits):
+        return Refused(model.RATIO_OUT_OF_RANGE)
+    return model.cutoff(live, tip, ratio_bits)
 
 
 def check_differs(case):

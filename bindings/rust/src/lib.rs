@@ -28,7 +28,7 @@
 //! ```
 //!
 //! Beside the store: [`slab_for_size`] and [`SLAB_SIZES`], [`Slab`] for an object in its slot, [`crc32`], [`PersistentSettings`] for the
-//! settings cookie, [`SlabAddress`] for a slab and a slot. [`raw`] has the exported calls as they are.
+//! settings cookie, [`SlabAddress`] for a slab and a slot, [`fragmentation_cutoff`]. [`raw`] has the exported calls as they are.
 mod address;
 pub mod raw;
 mod refusal;
@@ -39,5 +39,5 @@ mod store;
 pub use address::SlabAddress;
 pub use refusal::{Refusal, RefusalKind};
 pub use settings::PersistentSettings;
-pub use slab::{crc32, crc32_update, slab_for_size, Slab, SLAB_SIZES};
+pub use slab::{crc32, crc32_update, fragmentation_cutoff, slab_for_size, Slab, SLAB_SIZES};
 pub use store::{AllocatorStats, Cut, Store, Update};

@@ -16,6 +16,7 @@ extern "C" {
     pub fn wentuhoro_cookie_verify(cookie: *const u8, cookie_len: usize, leaf_fanout: u64) -> u64;
     pub fn wentuhoro_pack(slots: usize, slab: usize, slot: usize, location: *mut u64, location_len: usize) -> u64;
     pub fn wentuhoro_unpack(slots: usize, location: u64, address: *mut u64, address_len: usize) -> u64;
+    pub fn wentuhoro_fragmentation_cutoff(live: usize, tip: usize, ratio: f32, cutoff: *mut u64, cutoff_len: usize) -> u64;
 
     pub fn wentuhoro_fresh(
         ids: usize,

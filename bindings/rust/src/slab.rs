@@ -76,6 +76,23 @@ pub fn crc32_update(register: u32, bytes: &[u8]) -> u32 {
     unsafe { raw::wentuhoro_crc32_update(register, bytes.as_ptr(), bytes.len()) }
 }
 
+/// The first slot that may be moved out of a slab with `live` slots held or pending below its tip, where it is filled less than the ratio.
+/// Refuses more live than tip, or a tip past 65,536, with 1, and a ratio that is not above 0 and at most 1 with 14.
+///
+/// ```
+/// assert_eq!(wentuhoro::fragmentation_cutoff(3, 8, 0.75)?, Some(4));
+/// assert_eq!(wentuhoro::fragmentation_cutoff(4, 8, 0.5)?, None);
+/// # Ok::<(), wentuhoro::Refusal>(())
+/// ```
+pub fn fragmentation_cutoff(live: usize, tip: usize, target_fill_ratio: f32) -> Result<Option<usize>, Refusal> {
+    let mut cutoff = [0; 2];
+    Refusal::unless_granted(unsafe {
+        raw::wentuhoro_fragmentation_cutoff(live, tip, target_fill_ratio, cutoff.as_mut_ptr(), cutoff.len())
+    })?;
+    let [is_below, slot] = cutoff;
+    Ok((is_below == 1).then_some(slot as usize))
+}
+
 #[cfg(test)]
 mod tests {
     use super::*;

@@ -139,9 +139,27 @@ fn unpack(location: u64) -> String {
     })
 }
 
-/// Where a slab of this tip, so many of its slots taken, is listed from. Read off a defrag list: slot j is object j's for every j but 0,
-/// whatever the marks say, and the first row tells. A slab with nothing taken has a tip of at most 1.
+/// Up to this tip a cutoff is read off a defrag list too.
+const LISTED: usize = 120;
+
+/// Asked for; and listed from, which has to agree.
 fn cutoff(live: usize, tip: usize, ratio: f32) -> String {
+    let mut cutoff = Guarded::unwritten(2);
+    let status = unsafe { raw::wentuhoro_fragmentation_cutoff(live, tip, ratio, cutoff.as_mut_ptr(), cutoff.len()) };
+    let said = told(status, &cutoff, |values| match *values {
+        [0, 0] => "nothing".into(),
+        [1, slot] => format!("from {slot}"),
+        _ => "no answer".into(),
+    });
+    if tip <= LISTED && said != listed_from(live, tip, ratio) {
+        return BROKEN.into();
+    }
+    said
+}
+
+/// Where a slab of this tip, so many of its slots taken, is listed from: slot j is object j's for every j but 0, whatever the marks say, and
+/// the first row tells. A slab with nothing taken has a tip of at most 1.
+fn listed_from(live: usize, tip: usize, ratio: f32) -> String {
     let location = |slot: usize| (1 << 56) + slot as u64;
     let mut tables = Tables::new(tip.max(2), tip);
     tables.fresh().unwrap();
