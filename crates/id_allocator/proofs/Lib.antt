@@ -4,3 +4,4 @@ pub mod LawsMapped
 pub mod LawsHinted
 pub mod LawsCounted
 pub mod LawsReleased
+pub mod LawsCalm

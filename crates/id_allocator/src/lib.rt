@@ -14,7 +14,7 @@ ghost use mathlib.Core.Bool.{false};
 ghost use mathlib.Core.List.{map};
 ghost use Prim.Native.Nat.{_<_, _≤_, min, max};
 ghost use lib.ListN.{length, getD, take, set};
-ghost use Rattle.id_allocator.specs.Marks.{isPending, isHeld, isTaken, firstFree, smallestFree, countIf, lastTaken, tip, hold, letGo};
+ghost use Rattle.id_allocator.specs.Marks.{isPending, isHeld, isTaken, smallestFree, countIf, lastTaken, tip, hold, letGo};
 ghost use Rattle.id_allocator.specs.Counted.{hinted, counted, settle};
 ghost use Rattle.id_allocator.specs.Written.{isMark, turned, released, givenBack, hintBack};
 
@@ -27,6 +27,9 @@ pub const PENDING: u8 = 2;
 
 // As many marks as a count in a byte takes, in whole vectors.
 const PART: usize = 192;
+
+// As many marks as a release looks at before it writes.
+const RELEASED: usize = 64;
 
 // So many marks a search for a free one passes over at once: where some are free, the next one is near.
 const BLOCK: usize = 32;
@@ -50,14 +53,14 @@ fn larger(a: usize, b: usize) -> usize
     if a < b { b } else { a }
 }
 
-// Whether any is free.
-fn has_free(marks: &[u8]) -> bool
-    ensures { λ r. ⌜ (r ≡ false → firstFree (now (marks .entry)) ≡ length (now (marks .entry))) ⌝ }
+// Whether any is this one.
+fn has(marks: &[u8], mark: u8) -> bool
+    ensures { λ r. ⌜ (r ≡ false → countIf (isMark mark) (now (marks .entry)) ≡ 0) ⌝ }
 {
     let mut found = false;
     let mut i: usize = 0;
     while i < marks.len() {
-        if marks[i] == FREE {
+        if marks[i] == mark {
             found = true;
         }
         i += 1;
@@ -73,7 +76,7 @@ fn skip(marks: &[u8], from: usize, width: usize) -> usize
     let mut i = from;
     while marks.len() - i >= width {
         let end = i + width;
-        if has_free(&marks[i..end]) {
+        if has(&marks[i..end], FREE) {
             return i;
         }
         i = end;
@@ -307,18 +310,54 @@ fn release_part(marks: &mut [u8], zero: u8) -> u8
     n
 }
 
+// Whether any is another one.
+fn has_other(marks: &[u8], mark: u8) -> bool
+    ensures { λ r. ⌜ (r ≡ false → countIf (isMark mark) (now (marks .entry)) ≡ length (now (marks .entry))) ⌝ }
+{
+    let mut found = false;
+    let mut i: usize = 0;
+    while i < marks.len() {
+        if marks[i] != mark {
+            found = true;
+        }
+        i += 1;
+    }
+    found
+}
+
+// Whether a release may change any of these marks. Where a 0 stays, only a pending one is changed; where it does not, a held one never is.
+fn stirs(marks: &[u8], zero: u8) -> bool
+    ensures { λ r. ⌜ (r ≡ false → (countIf isPending (now (marks .entry)) ≡ 0) × (now (marks .entry) ≡ map (released zero) (now (marks .entry)))) ⌝ }
+{
+    if zero == FREE {
+        return has(marks, PENDING);
+    }
+    has_other(marks, HELD)
+}
+
+// As `release_part`, but that nothing is written where nothing changes.
+fn release_some(marks: &mut [u8], zero: u8) -> u8
+    requires { ⌜ length (now marks) ≤ 255 ⌝ }
+    ensures { λ r. ⌜ (r ≡ countIf isPending (now (marks .entry))) × (now (marks .exit) ≡ map (released zero) (now (marks .entry))) ⌝ }
+{
+    if stirs(marks, zero) {
+        return release_part(marks, zero);
+    }
+    0
+}
+
 // Each pending mark becomes free, each 0 becomes `zero`; how many were pending.
 fn release_all(marks: &mut [u8], zero: u8) -> usize
     ensures { λ r. ⌜ (r ≡ countIf isPending (now (marks .entry))) × (now (marks .exit) ≡ map (released zero) (now (marks .entry))) ⌝ }
 {
     let mut n: usize = 0;
     let mut i: usize = 0;
-    while marks.len() - i >= PART {
-        let end = i + PART;
-        n += wide(release_part(&mut marks[i..end], zero));
+    while marks.len() - i >= RELEASED {
+        let end = i + RELEASED;
+        n += wide(release_some(&mut marks[i..end], zero));
         i = end;
     }
-    n + wide(release_part(&mut marks[i..], zero))
+    n + wide(release_some(&mut marks[i..], zero))
 }
 
 // Each pending number becomes free; how many there were. The hint is 0 from then on.

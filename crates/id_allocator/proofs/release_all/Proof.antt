@@ -28,17 +28,17 @@ sub-loop c = search needs
 add-end : tie.Need-add-end Inv-loop μ-loop
 add-end c = search needs
 
-sub-release-part : tie.Need-sub-release-part Inv-loop μ-loop
-sub-release-part c = search needs
+sub-release-some : tie.Need-sub-release-some Inv-loop μ-loop
+sub-release-some c = search needs
 
-part-release-part-start : tie.Need-part-release-part-start Inv-loop μ-loop
-part-release-part-start c = search needs
+part-release-some-start : tie.Need-part-release-some-start Inv-loop μ-loop
+part-release-some-start c = search needs
 
-part-release-part-end : tie.Need-part-release-part-end Inv-loop μ-loop
-part-release-part-end c = search needs
+part-release-some-end : tie.Need-part-release-some-end Inv-loop μ-loop
+part-release-some-end c = search needs
 
-release-part-requires : tie.Need-release-part-requires Inv-loop μ-loop
-release-part-requires c κs = simp (length-take, length-drop) (omega arith)
+release-some-requires : tie.Need-release-some-requires Inv-loop μ-loop
+release-some-requires c κs = simp (length-take, length-drop) (omega arith)
 
 wide-requires : tie.Need-wide-requires Inv-loop μ-loop
 wide-requires c κs = search needs
@@ -49,9 +49,9 @@ add-n c =
     let a = b .before .before .args in
     let ms = now (a .marks) in
     let i = b .loop .i in
-    let width : i + 192 - i ≡ 192 = omega arith in
+    let width : i + 64 - i ≡ 64 = omega arith in
     let left = mapped-left (released (a .zero)) ms (b .loop .marks) i (omega arith) (b .loop .inv .2) in
-    omega (arith, rw (width, left) at (c .before .before .before .release-part .ensures .0), countIf-block isPending ms i 192, countIf-le isPending ms)
+    omega (arith, rw (width, left) at (c .before .before .before .release-some .ensures .0), countIf-block isPending ms i 64, countIf-le isPending ms)
 
 loop-less : tie.Need-loop-less Inv-loop μ-loop
 loop-less c = search needs
@@ -63,23 +63,23 @@ loop-again c =
     let ms = now (a .marks) in
     let f = released (a .zero) in
     let i = b .loop .i in
-    let width : i + 192 - i ≡ 192 = omega arith in
-    let next : i + (i + 192 - i) ≡ i + 192 = omega arith in
+    let width : i + 64 - i ≡ 64 = omega arith in
+    let next : i + (i + 64 - i) ≡ i + 64 = omega arith in
     let left = mapped-left f ms (b .loop .marks) i (omega arith) (b .loop .inv .2) in
-    let part = mapped-part f ms (b .loop .marks) i (omega arith) (b .loop .inv .2) (i + 192 - i) _ (c .before .before .before .release-part .ensures .1) ∙ ap (λ k. mapped f k ms) next in
-    (search needs, ap length part ∙ mapped-length f (i + 192) ms, part, omega (arith, rw (width, left) at (c .before .before .before .release-part .ensures .0), countIf-block isPending ms i 192))
+    let part = mapped-part f ms (b .loop .marks) i (omega arith) (b .loop .inv .2) (i + 64 - i) _ (c .before .before .before .release-some .ensures .1) ∙ ap (λ k. mapped f k ms) next in
+    (search needs, ap length part ∙ mapped-length f (i + 64) ms, part, omega (arith, rw (width, left) at (c .before .before .before .release-some .ensures .0), countIf-block isPending ms i 64))
 
-sub-release-part-2 : tie.Need-sub-release-part-2 Inv-loop μ-loop
-sub-release-part-2 c = search needs
+sub-release-some-2 : tie.Need-sub-release-some-2 Inv-loop μ-loop
+sub-release-some-2 c = search needs
 
-part-release-part-start-2 : tie.Need-part-release-part-start-2 Inv-loop μ-loop
-part-release-part-start-2 c = search needs
+part-release-some-start-2 : tie.Need-part-release-some-start-2 Inv-loop μ-loop
+part-release-some-start-2 c = search needs
 
-part-release-part-end-2 : tie.Need-part-release-part-end-2 Inv-loop μ-loop
-part-release-part-end-2 c = search needs
+part-release-some-end-2 : tie.Need-part-release-some-end-2 Inv-loop μ-loop
+part-release-some-end-2 c = search needs
 
-release-part-requires-2 : tie.Need-release-part-requires-2 Inv-loop μ-loop
-release-part-requires-2 c κs = simp (length-take, length-drop) (omega arith)
+release-some-requires-2 : tie.Need-release-some-requires-2 Inv-loop μ-loop
+release-some-requires-2 c κs = simp (length-take, length-drop) (omega arith)
 
 wide-requires-2 : tie.Need-wide-requires-2 Inv-loop μ-loop
 wide-requires-2 c κs = search needs
@@ -91,14 +91,14 @@ add-result c =
     let ms = now (a .marks) in
     let i = b .loop .i in
     let left = mapped-left (released (a .zero)) ms (b .loop .marks) i (omega arith) (b .loop .inv .2) in
-    omega (arith, rw (b .loop .inv .1, left) at (c .before .before .before .release-part2 .ensures .0), countIf-rest isPending ms i, countIf-le isPending ms)
+    omega (arith, rw (b .loop .inv .1, left) at (c .before .before .before .release-some2 .ensures .0), countIf-rest isPending ms i, countIf-le isPending ms)
 
 same-length : tie.Need-same-length Inv-loop μ-loop
 same-length c =
     let b = c .before .before .before .before .before .before in
     let a = b .before .before .args in
     let f = released (a .zero) in
-    let last = mapped-last f (now (a .marks)) (b .loop .marks) (b .loop .i) (omega arith) (b .loop .inv .2) _ (b .loop .inv .1) (c .before .before .before .release-part2 .ensures .1) in
+    let last = mapped-last f (now (a .marks)) (b .loop .marks) (b .loop .i) (omega arith) (b .loop .inv .2) _ (b .loop .inv .1) (c .before .before .before .release-some2 .ensures .1) in
     ap length last ∙ length-map (now (a .marks)) f
 
 returns : tie.Need-returns Inv-loop μ-loop
@@ -109,8 +109,8 @@ returns c =
     let i = b .loop .i in
     let f = released (a .zero) in
     let left = mapped-left f ms (b .loop .marks) i (omega arith) (b .loop .inv .2) in
-    let last = mapped-last f ms (b .loop .marks) i (omega arith) (b .loop .inv .2) _ (b .loop .inv .1) (c .before .before .before .release-part2 .ensures .1) in
-    (omega (arith, rw (b .loop .inv .1, left) at (c .before .before .before .release-part2 .ensures .0), countIf-rest isPending ms i), last)
+    let last = mapped-last f ms (b .loop .marks) i (omega arith) (b .loop .inv .2) _ (b .loop .inv .1) (c .before .before .before .release-some2 .ensures .1) in
+    (omega (arith, rw (b .loop .inv .1, left) at (c .before .before .before .release-some2 .ensures .0), countIf-rest isPending ms i), last)
 
 pub release-all-spec : {M : Type 1} → statement M
 release-all-spec =
@@ -121,18 +121,18 @@ release-all-spec =
     loop-holds
     sub-loop
     add-end
-    sub-release-part
-    part-release-part-start
-    part-release-part-end
-    release-part-requires
+    sub-release-some
+    part-release-some-start
+    part-release-some-end
+    release-some-requires
     wide-requires
     add-n
     loop-less
     loop-again
-    sub-release-part-2
-    part-release-part-start-2
-    part-release-part-end-2
-    release-part-requires-2
+    sub-release-some-2
+    part-release-some-start-2
+    part-release-some-end-2
+    release-some-requires-2
     wide-requires-2
     add-result
     same-length

@@ -4,10 +4,11 @@ use mathlib.Core.Path.{_≡_, _∙_}
 use Prim.Native.Nat.{_+_, _≤_, _-_}
 use native.Mathlib.Omega.{arith}
 use denote.Ref.{now}
-use lib.ListN.{length}
+use lib.ListN.{length, take, drop}
 use borrow.Author.Needs.{needs}
 use Rattle.id_allocator.specs.Marks.{smallestFree}
 use Rattle.id_allocator.proofs.LawsFree.{smallestFree-skip}
+use Rattle.id_allocator.proofs.LawsCalm.{none-free}
 use Rattle.id_allocator.proofs.skip.Statement.{statement}
 use Rattle.id_allocator.proofs.skip.Tie as tie
 
@@ -26,17 +27,17 @@ sub-loop c = search needs
 add-end : tie.Need-add-end Inv-loop μ-loop
 add-end c = search needs
 
-sub-has-free : tie.Need-sub-has-free Inv-loop μ-loop
-sub-has-free c = search needs
+sub-has : tie.Need-sub-has Inv-loop μ-loop
+sub-has c = search needs
 
-part-has-free-start : tie.Need-part-has-free-start Inv-loop μ-loop
-part-has-free-start c = search needs
+part-has-start : tie.Need-part-has-start Inv-loop μ-loop
+part-has-start c = search needs
 
-part-has-free-end : tie.Need-part-has-free-end Inv-loop μ-loop
-part-has-free-end c = search needs
+part-has-end : tie.Need-part-has-end Inv-loop μ-loop
+part-has-end c = search needs
 
-has-free-requires : tie.Need-has-free-requires Inv-loop μ-loop
-has-free-requires c κs = search needs
+has-requires : tie.Need-has-requires Inv-loop μ-loop
+has-requires c κs = search needs
 
 returns : tie.Need-returns Inv-loop μ-loop
 returns c = c .before .before .before .before .loop .inv
@@ -49,7 +50,7 @@ loop-again c =
     let b = c .before .before .before .before in
     let a = b .before .before .args in
     let width : b .loop .i + a .width - b .loop .i ≡ a .width = omega arith in
-    let none = rw width at (c .before .has-free .ensures (c .if1 .left)) in
+    let none = none-free (take (a .width) (drop (b .loop .i) (now (a .marks)))) (rw width at (c .before .has .ensures (c .if1 .left))) in
     (search needs, b .loop .inv .1 ∙ smallestFree-skip (now (a .marks)) (b .loop .i) (a .width) (omega arith) none)
 
 returns-2 : tie.Need-returns-2 Inv-loop μ-loop
@@ -64,10 +65,10 @@ skip-spec =
     loop-holds
     sub-loop
     add-end
-    sub-has-free
-    part-has-free-start
-    part-has-free-end
-    has-free-requires
+    sub-has
+    part-has-start
+    part-has-end
+    has-requires
     returns
     loop-less
     loop-again
