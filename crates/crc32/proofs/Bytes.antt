@@ -12,7 +12,7 @@ use lib.ListN.{length, getD, drop, length-drop}
 use lib.Seq.{getD-drop, drop-append-le}
 use Rattle.little_endian.specs.LittleEndian.{word}
 use Rattle.little_endian.proofs.Laws.{Bytes, drop-bytes}
-use Rattle.crc32.proofs.Xor.{four}
+use Rattle.crc_steps.proofs.Xor.{four}
 
 -- 2 ^ (8 * suc l) is 256 times as much
 pow-byte : (l : ℕ) → 2 ^ (8 * suc l) ≡ 2 ^ (8 * l) * 2 ^ 8

@@ -12,11 +12,13 @@ use lib.ListN.{length, getD, drop, length-drop, drop-of-length-le}
 use lib.Seq.{drop-cons, drop-drop, getD-drop}
 use Rattle.little_endian.specs.LittleEndian.{word}
 use Rattle.little_endian.proofs.Laws.{Bytes, drop-bytes, word-cons}
-use Rattle.crc32.specs.Crc32.{steps, crcOver}
+use Rattle.crc_steps.specs.Steps.{steps}
+use Rattle.crc32.specs.Crc32.{crcOver}
 use Rattle.crc32.specs.Fold.{up, over, num, Turn, left}
-use Rattle.crc32.proofs.Linear.{over-word, read-in, steps-add, steps-shift, steps-zero}
+use Rattle.crc_steps.proofs.Linear.{read-in, steps-add, steps-shift, steps-zero}
+use Rattle.crc32.proofs.Laws.{over-word}
 use Rattle.crc32.proofs.Bytes.{word-head}
-use Rattle.crc32.proofs.Agree.{shifted-xor}
+use Rattle.crc_steps.proofs.Agree.{shifted-xor}
 
 -- a byte, and the register after it
 pub crc-first : (s : List ℕ) (i : ℕ) → i < length s → (c : ℕ) → crcOver c (drop i s) ≡ crcOver (steps 8 (bitXor c (getD s i 0))) (drop (i + 1) s)

@@ -1,6 +1,4 @@
-pub mod Xor
-pub mod Linear
-pub mod Agree
+pub mod Shifts
 pub mod Turns
 pub mod Left
 pub mod Laws
@@ -8,5 +6,4 @@ pub mod Relation
 pub mod Bytes
 pub mod Pending
 pub mod Copy
-pub mod Away
 pub mod Past

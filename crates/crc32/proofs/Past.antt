@@ -4,10 +4,11 @@
 use mathlib.Core.Path.{_≡_, refl, sym, ap, ap₂, _∙_, subst}
 use Prim.Native.Nat.{ℕ, _+_, _/_, _^_, _<_}
 use lib.Bits.{bitXor, xor-comm, xor-zero-r}
-use Rattle.crc32.specs.Crc32.{steps}
+use Rattle.crc_steps.specs.Steps.{steps}
 use Rattle.crc32.specs.Fold.{up, over, num, Turn, pulled, pastOf}
-use Rattle.crc32.proofs.Xor.{xor-assoc, xor-swap}
-use Rattle.crc32.proofs.Agree.{id, lup, down, over-xor}
+use Rattle.crc_steps.proofs.Xor.{xor-assoc, xor-swap}
+use Rattle.crc_steps.proofs.Agree.{id, down}
+use Rattle.crc32.proofs.Shifts.{lup, over-xor}
 use Rattle.crc32.proofs.Turns.{far-turn}
 
 -- x is a and b together

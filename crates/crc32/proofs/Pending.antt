@@ -11,11 +11,12 @@ use lib.ListN.{length, getD, take, drop, set, length-drop, List·getD-eq-default
 use lib.Seq.{drop-cons, drop-set-add, take-suc-set, length-take-le, getD-take, getD-drop}
 use Rattle.little_endian.specs.LittleEndian.{word}
 use Rattle.little_endian.proofs.Laws.{Bytes, take-bytes, drop-bytes, word-cons}
-use Rattle.crc32.specs.Crc32.{steps, crcOver}
+use Rattle.crc_steps.specs.Steps.{steps}
+use Rattle.crc32.specs.Crc32.{crcOver}
 use Rattle.crc32.specs.Fold.{left}
 use Rattle.crc32.specs.Sparse.{pend}
-use Rattle.crc32.proofs.Xor.{four, four-xor, xor-assoc}
-use Rattle.crc32.proofs.Linear.{over-word}
+use Rattle.crc_steps.proofs.Xor.{four, four-xor, xor-assoc}
+use Rattle.crc32.proofs.Laws.{over-word}
 use Rattle.crc32.proofs.Bytes.{word-before, word-after, four-block, four-lt, word-same, five, five-lt, five-ap, word-five}
 use Rattle.crc32.proofs.Relation.{spread, push}
 

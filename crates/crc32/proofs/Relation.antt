@@ -5,10 +5,10 @@ use mathlib.Core.Path.{_≡_, refl, sym, ap, ap₂, _∙_}
 use Prim.Native.Nat.{ℕ, _+_, _*_, _^_, _<_}
 use native.Mathlib.Nat.{add-assoc}
 use lib.Bits.{bitXor}
-use Rattle.crc32.specs.Crc32.{step, steps}
-use Rattle.crc32.proofs.Xor.{four}
-use Rattle.crc32.proofs.Linear.{steps-xor, steps-add, steps-shift, steps-zero}
-use Rattle.crc32.proofs.Agree.{id, both, lin-steps, agree, down-id, down-after, down-both, descend}
+use Rattle.crc_steps.specs.Steps.{step, steps}
+use Rattle.crc_steps.proofs.Xor.{four}
+use Rattle.crc_steps.proofs.Linear.{steps-xor, steps-add, steps-shift, steps-zero}
+use Rattle.crc_steps.proofs.Agree.{id, both, lin-steps, agree, down-id, down-after, down-both, descend}
 
 abbrev put : ℕ → ℕ
 put x = four (steps 1872 x) (steps 1840 x) (steps 1368 x) x

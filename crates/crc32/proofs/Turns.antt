@@ -5,24 +5,12 @@ use Prim.Native.Nat.{ℕ, _+_, _*_, _/_, _%_, _^_, _<_}
 use native.Mathlib.Nat.{add-assoc}
 use lib.Dec.{T}
 use lib.Bits.{bitXor, xor-lt, xor-zero-r}
-use Rattle.crc32.specs.Crc32.{step, steps}
+use Rattle.crc_steps.specs.Steps.{step, steps}
 use Rattle.crc32.specs.Fold.{up, over, num, Turn, fifth}
-use Rattle.crc32.proofs.Xor.{xor-assoc}
-use Rattle.crc32.proofs.Linear.{steps-xor, steps-add, steps-shift, steps-zero}
-use Rattle.crc32.proofs.Agree.{Lin, id, lup, down, low, both, after, above, over-xor, lin-steps, lin-fifth, same, agree, falls, down-id, down-after, down-test, descend}
-
--- the register after four bytes, each by itself
-pub four-fold : (x : ℕ) → x < 2 ^ 64
-    → bitXor (x / 2 ^ 32) (bitXor (bitXor (steps 32 (x % 2 ^ 8)) (steps 24 (x / 2 ^ 8 % 2 ^ 8))) (bitXor (steps 16 (x / 2 ^ 16 % 2 ^ 8)) (steps 8 (x / 2 ^ 24 % 2 ^ 8)))) ≡ steps 32 x
-unfolding same steps step
-four-fold =
-    agree (λ x. bitXor (x / 2 ^ 32) (bitXor (bitXor (steps 32 (x % 2 ^ 8)) (steps 24 (x / 2 ^ 8 % 2 ^ 8))) (bitXor (steps 16 (x / 2 ^ 16 % 2 ^ 8)) (steps 8 (x / 2 ^ 24 % 2 ^ 8))))) (steps 32)
-    (both (down 32 id)
-    (both (both (after (lin-steps 32) (low 8 id)) (after (lin-steps 24) (low 8 (down 8 id))))
-    (both (after (lin-steps 16) (low 8 (down 16 id))) (after (lin-steps 8) (low 8 (down 24 id))))))
-    (lin-steps 32)
-    64
-    tt
+use Rattle.crc_steps.proofs.Xor.{xor-assoc}
+use Rattle.crc_steps.proofs.Linear.{steps-xor, steps-add, steps-shift, steps-zero}
+use Rattle.crc_steps.proofs.Agree.{Lin, id, down, low, both, after, lin-steps, same, agree, falls, down-id, down-after, down-test, descend}
+use Rattle.crc32.proofs.Shifts.{lup, above, over-xor, lin-fifth}
 
 -- and after a byte, by its halves
 pub byte-fold : (x : ℕ) → x < 2 ^ 32 → bitXor (x / 2 ^ 8) (bitXor (steps 8 (x % 2 ^ 4)) (steps 4 (x / 2 ^ 4 % 2 ^ 4))) ≡ steps 8 x

@@ -8,7 +8,7 @@ use Prim.Native.Nat.{ℕ, _+_, _-_, _*_, _/_, _%_, _^_}
 use lib.Bits.{bitXor}
 use lib.ListN.{length, drop}
 use Rattle.little_endian.specs.LittleEndian.{word}
-use Rattle.crc32.specs.Crc32.{steps}
+use Rattle.crc_steps.specs.Steps.{steps}
 use Rattle.crc32.specs.declared.words.Past.{Past}
 use Rattle.crc32.specs.declared.words.Pend.{Pend}
 

@@ -8,18 +8,16 @@
 //     let check = crc32::finish(register);
 //
 // Fast, because a sparse multiple of the polynomial says how a bit may be taken away at one place and put back at a few later ones. So bytes
-// are read whole words at a time, and put off until few are left; only these are looked up.
-//   table  four bytes at once, for the last word and for few bytes.
+// are read whole words at a time, and put off until few are left; only these are looked up, four at once (crc_steps).
 //   words  up to LONG bytes: eight a turn, in registers; the odd bytes come first, as a word of their own.
 //   long   from there on: a multiple whose places are whole bytes, so that LLVM moves sixteen at once.
-// What the standard says, a bit at a time, is in specs/Crc32.antt, and every function here is proved equal to it.
+// What the standard says, a bit at a time, is in specs/Crc32.antt and in crc_steps, and every function here is proved equal to it.
 ghost use mathlib.Core.Path.{_≡_};
 ghost use lib.Bits.{bitXor};
 ghost use Rattle.crc32.specs.Crc32.{crcOver, crc32};
 
 mod load;
 mod long;
-mod table;
 mod words;
 
 // The register before the first byte.

@@ -7,12 +7,13 @@ ghost use Prim.Native.Nat.{ℕ, _+_, _-_, _*_, _%_, _<_, _≤_, _^_};
 ghost use lib.Bits.{bitXor};
 ghost use lib.ListN.{length, drop};
 ghost use Rattle.little_endian.specs.LittleEndian.{word};
-ghost use Rattle.crc32.specs.Crc32.{steps, crcOver};
+ghost use Rattle.crc_steps.specs.Steps.{steps};
+ghost use Rattle.crc32.specs.Crc32.{crcOver};
 ghost use Rattle.crc32.specs.Fold.{held, past, pulled, over, left, Turn, fifth};
 use crate::load::load;
 use crate::load::quad;
 use crate::load::wide;
-use crate::table::four_bytes;
+use crc_steps::four_bytes;
 
 // What is still to be taken into the bytes to come, the lowest word first.
 struct Pend {

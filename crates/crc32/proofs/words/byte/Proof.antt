@@ -5,8 +5,8 @@ use mathlib.Core.Path.{_≡_, ap₂, _∙_}
 use Prim.Native.Nat.{ℕ, _/_, _^_, _<_}
 use native.Mathlib.Omega.{arith}
 use lib.Bits.{bitXor, xor-lt}
-use Rattle.crc32.specs.Crc32.{steps}
-use Rattle.crc32.proofs.Linear.{steps-lt}
+use Rattle.crc_steps.specs.Steps.{steps}
+use Rattle.crc_steps.proofs.Linear.{steps-lt}
 use Rattle.crc32.proofs.Turns.{byte-fold}
 use Rattle.crc32.proofs.words.byte.Statement.{statement}
 use Rattle.crc32.proofs.words.byte.Tie as tie

@@ -2,8 +2,8 @@
 -- Assumes nothing.
 use borrow.Author.Needs.{needs}
 use mathlib.Core.Path.{sym, ap, _∙_}
-use Rattle.crc32.specs.Crc32.{steps}
-use Rattle.crc32.proofs.Linear.{steps-add}
+use Rattle.crc_steps.specs.Steps.{steps}
+use Rattle.crc_steps.proofs.Linear.{steps-add}
 use Rattle.crc32.proofs.words.fold.Statement.{statement}
 use Rattle.crc32.proofs.words.fold.Tie as tie
 

@@ -7,7 +7,7 @@ use native.Mathlib.Omega.{arith}
 use lib.Bits.{bitXor, xor-lt}
 use lib.ListN.{drop}
 use Rattle.crc32.specs.Crc32.{crcOver}
-use Rattle.crc32.proofs.Linear.{steps-lt}
+use Rattle.crc_steps.proofs.Linear.{steps-lt}
 use Rattle.crc32.proofs.Left.{crc-four}
 use Rattle.crc32.proofs.words.four_at.Statement.{statement}
 use Rattle.crc32.proofs.words.four_at.Tie as tie

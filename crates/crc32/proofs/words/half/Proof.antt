@@ -3,8 +3,8 @@
 use mathlib.Core.Path.{sym, ap}
 use Prim.Native.Nat.{_≤_}
 use native.Mathlib.Omega.{arith}
-use Rattle.crc32.specs.Crc32.{step, steps}
-use Rattle.crc32.proofs.Away.{away}
+use Rattle.crc_steps.specs.Steps.{step, steps}
+use Rattle.crc_steps.proofs.Away.{away}
 use Rattle.crc32.proofs.words.half.Statement.{statement}
 use Rattle.crc32.proofs.words.half.Tie as tie
 

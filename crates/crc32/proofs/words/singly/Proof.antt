@@ -6,7 +6,8 @@ use Prim.Native.Nat.{ℕ, _+_, _-_, _^_, _≤_, _<_}
 use native.Mathlib.Omega.{arith}
 use lib.Bits.{bitXor}
 use lib.ListN.{length, drop}
-use Rattle.crc32.specs.Crc32.{steps, crcOver}
+use Rattle.crc_steps.specs.Steps.{steps}
+use Rattle.crc32.specs.Crc32.{crcOver}
 use Rattle.crc32.proofs.Left.{crc-first, all-done}
 use Rattle.crc32.proofs.words.singly.Statement.{statement}
 use Rattle.crc32.proofs.words.singly.Tie as tie

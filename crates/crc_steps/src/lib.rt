@@ -1,9 +1,12 @@
-// The register after four bytes, each looked up. LLVM keeps the answers of a `match` as a table in read-only memory.
+// Steps of the register of CRC-32: four bytes at once, each looked up. What a step is stands in specs/Steps.antt.
 //
+//     let register = crc_steps::four_bytes(register ^ word);  // word: the next four bytes, the first lowest
+//
+// LLVM keeps the answers of a `match` as a table in read-only memory.
 // A key is 256 and the byte. Of eight bits alone LLVM makes a number with a sign, and has to mend it at each look.
 ghost use mathlib.Core.Path.{_≡_};
 ghost use Prim.Native.Nat.{_-_, _<_, _≤_};
-ghost use Rattle.crc32.specs.Crc32.{steps};
+ghost use Rattle.crc_steps.specs.Steps.{steps};
 
 fn first(key: u64) -> u64
     requires { ⌜ (256 ≤ key) × (key < 512) ⌝ }
@@ -1066,7 +1069,7 @@ fn fourth(key: u64) -> u64
 }
 
 // The low four bytes of w are taken in: 32 steps of w.
-pub(crate) fn four_bytes(w: u64) -> u64
+pub fn four_bytes(w: u64) -> u64
     ensures { λ r. ⌜ r ≡ steps 32 w ⌝ }
 {
     let a = first(w % 256 + 256) ^ second(w / 256 % 256 + 256);

@@ -1,17 +1,12 @@
--- The CRC's step is linear over xor, and n steps take a number that was shifted by n places back. From these two, the register after
--- any bytes is that many steps of one number, the register xor the bytes as a little-endian word.
+-- The CRC's step is linear over xor, and n steps take a number that was shifted by n places back.
 -- Assumes nothing.
 use mathlib.Core.Path.{_≡_, refl, sym, ap, ap₂, _∙_}
-use mathlib.Core.List.{List, [], _∷_}
 use Prim.Native.Nat.{ℕ, zero, suc, _+_, _*_, _/_, _%_, _^_, _<_}
 use native.Mathlib.Nat.{mod-lt, zero-lt-suc, mul-mod-left, mul-div-cancel, mul-assoc, pow-suc, suc-add, zero-add}
 use native.Mathlib.Omega.{arith}
-use lib.ListN.{length}
-use lib.Bits.{bitXor, differ, xor-comm, xor-shifted, xor-lt, xor-zero-r}
-use Rattle.little_endian.specs.LittleEndian.{word}
-use Rattle.little_endian.proofs.Laws.{Bytes}
-use Rattle.crc32.specs.Crc32.{takeIn, step, steps, crcOver}
-use Rattle.crc32.proofs.Xor.{xor-half, xor-odd, xor-assoc, xor-right-comm, xor-twice}
+use lib.Bits.{bitXor, differ, xor-comm, xor-shifted, xor-lt}
+use Rattle.crc_steps.specs.Steps.{takeIn, step, steps}
+use Rattle.crc_steps.proofs.Xor.{xor-half, xor-odd, xor-assoc, xor-right-comm, xor-twice}
 
 two-pos : zero < 2
 two-pos = zero-lt-suc 1
@@ -63,15 +58,6 @@ read-in k m c b h l =
     ∙ sym (steps-xor k (bitXor c b) (h * 2 ^ k))
     ∙ ap (steps k) (xor-assoc c b (h * 2 ^ k) ∙ ap (bitXor c) (xor-comm b (h * 2 ^ k) ∙ xor-shifted h k b l)))
     ∙ sym (steps-add k m (bitXor c (h * 2 ^ k + b)))
-
--- the register after the bytes
-pub over-word : (bs : List ℕ) → Bytes bs → (c : ℕ) → crcOver c bs ≡ steps (8 * length bs) (bitXor c (word bs))
-unfolding crcOver word
-over-word [] h c = sym (steps-zero (bitXor c 0) ∙ xor-zero-r c)
-over-word (b ∷ bs) h c =
-    over-word bs (λ j. h (suc j)) (steps 8 (bitXor c b))
-    ∙ read-in 8 (8 * length bs) c b (word bs) (h 0)
-    ∙ ap (λ (n : ℕ). steps n (bitXor c (word bs * 2 ^ 8 + b))) (omega arith)
 
 -- the register fits 32 bits
 takeIn-lt : (b h : ℕ) → h < 2 ^ 32 → takeIn b h < 2 ^ 32

@@ -10,10 +10,9 @@ use lib.Dec.{T, eqb, eqb→eq, eqb-refl}
 use lib.Arith.{lt-one}
 use lib.Pow.{pow-pos, split, shr-lt}
 use lib.Bits.{bitXor, xor-shifted, xor-block, xor-shr, xor-mod}
-use Rattle.crc32.specs.Crc32.{step, steps}
-use Rattle.crc32.specs.Fold.{up, over, fifth}
-use Rattle.crc32.proofs.Xor.{xor-swap}
-use Rattle.crc32.proofs.Linear.{step-xor, steps-xor, step-shift}
+use Rattle.crc_steps.specs.Steps.{step, steps}
+use Rattle.crc_steps.proofs.Xor.{xor-swap}
+use Rattle.crc_steps.proofs.Linear.{step-xor, steps-xor, step-shift}
 
 pub record Lin (f : ℕ → ℕ) : Type 0 where
   pub law : (a b : ℕ) → f (bitXor a b) ≡ bitXor (f a) (f b)
@@ -23,13 +22,6 @@ shifted-xor k a b = sym (simp add-zero at (xor-block k a b 0 0 (pow-pos k) (pow-
 
 pub id : Lin (λ x. x)
 id = record { law = λ a b. refl }
-
-pub lup : (k : ℕ) {f : ℕ → ℕ} → Lin f → Lin (λ x. up k (f x))
-lup k {f} l =
-    record {
-      law = λ a b.
-          ap (up k) (l .law a b) ∙ ap (λ (x : ℕ). x % 2 ^ 64) (shifted-xor k (f a) (f b)) ∙ xor-mod (f a * 2 ^ k) (f b * 2 ^ k) 64;
-    }
 
 pub down : (k : ℕ) {f : ℕ → ℕ} → Lin f → Lin (λ x. f x / 2 ^ k)
 down k {f} l = record { law = λ a b. ap (λ (x : ℕ). x / 2 ^ k) (l .law a b) ∙ xor-shr (f a) (f b) k }
@@ -43,23 +35,8 @@ both {f} {g} l m = record { law = λ a b. ap₂ bitXor (l .law a b) (m .law a b)
 pub after : {f g : ℕ → ℕ} → Lin f → Lin g → Lin (λ x. f (g x))
 after {f} {g} l m = record { law = λ a b. ap f (m .law a b) ∙ l .law (g a) (g b) }
 
-pub over-xor : (a b h k : ℕ) → bitXor (over a h) (over b k) ≡ over (bitXor a b) (bitXor h k)
-unfolding over
-over-xor a b h k = xor-swap (h * 2 ^ 64) a (k * 2 ^ 64) b ∙ ap (λ (x : ℕ). bitXor x (bitXor a b)) (sym (shifted-xor 64 h k))
-
-pub above : {f g : ℕ → ℕ} → Lin f → Lin g → Lin (λ x. over (f x) (g x))
-above {f} {g} l m = record { law = λ a b. ap₂ over (l .law a b) (m .law a b) ∙ sym (over-xor (f a) (f b) (g a) (g b)) }
-
 pub lin-steps : (n : ℕ) → Lin (steps n)
 lin-steps n = record { law = steps-xor n }
-
--- the map of the code
-pub lin-fifth : Lin fifth
-unfolding fifth
-lin-fifth =
-    let u = both id (lup 1 id) in
-    let v = both id (lup 2 id) in
-    both (both (both (both (lup 1 u) (lup 3 u)) (lup 7 id)) (lup 17 (both v (lup 4 v)))) (lup 26 (both u (lup 4 u)))
 
 -- ---- the test
 abbrev pub also : Bool → Bool → Bool

@@ -1,14 +1,14 @@
--- `crc32::table::four_bytes` meets its contract: each byte by itself, since the steps are linear.
+-- `crc_steps::four_bytes` meets its contract: each byte by itself, since the steps are linear.
 -- Assumes nothing.
 use borrow.Author.Needs.{needs}
 use mathlib.Core.Path.{_≡_, ap, ap₂, _∙_}
-use Prim.Native.Nat.{ℕ, _+_, _-_, _/_, _%_, _^_}
+use Prim.Native.Nat.{ℕ, _+_, _-_, _/_, _%_, _^_, _<_}
 use native.Mathlib.Omega.{arith}
 use lib.Bits.{bitXor}
-use Rattle.crc32.specs.Crc32.{steps}
-use Rattle.crc32.proofs.Turns.{four-fold}
-use Rattle.crc32.proofs.table.four_bytes.Statement.{statement}
-use Rattle.crc32.proofs.table.four_bytes.Tie as tie
+use Rattle.crc_steps.specs.Steps.{step, steps}
+use Rattle.crc_steps.proofs.Agree.{id, down, low, both, after, lin-steps, same, agree}
+use Rattle.crc_steps.proofs.four_bytes.Statement.{statement}
+use Rattle.crc_steps.proofs.four_bytes.Tie as tie
 
 add-first : tie.Need-add-first
 add-first c = search needs
@@ -33,6 +33,19 @@ add-fourth c = search needs
 
 fourth-requires : tie.Need-fourth-requires
 fourth-requires c κs = search needs
+
+-- the register after four bytes, each by itself
+four-fold : (x : ℕ) → x < 2 ^ 64
+    → bitXor (x / 2 ^ 32) (bitXor (bitXor (steps 32 (x % 2 ^ 8)) (steps 24 (x / 2 ^ 8 % 2 ^ 8))) (bitXor (steps 16 (x / 2 ^ 16 % 2 ^ 8)) (steps 8 (x / 2 ^ 24 % 2 ^ 8)))) ≡ steps 32 x
+unfolding same steps step
+four-fold =
+    agree (λ x. bitXor (x / 2 ^ 32) (bitXor (bitXor (steps 32 (x % 2 ^ 8)) (steps 24 (x / 2 ^ 8 % 2 ^ 8))) (bitXor (steps 16 (x / 2 ^ 16 % 2 ^ 8)) (steps 8 (x / 2 ^ 24 % 2 ^ 8))))) (steps 32)
+    (both (down 32 id)
+    (both (both (after (lin-steps 32) (low 8 id)) (after (lin-steps 24) (low 8 (down 8 id))))
+    (both (after (lin-steps 16) (low 8 (down 16 id))) (after (lin-steps 8) (low 8 (down 24 id))))))
+    (lin-steps 32)
+    64
+    tt
 
 back : (n x y : ℕ) → x ≡ steps n ((y + 256) - 256) → x ≡ steps n y
 back n x y h = let e : (y + 256) - 256 ≡ y = omega arith in h ∙ ap (steps n) e
