@@ -19,7 +19,7 @@ use Rattle.model.specs.Verdict.{Verdict, test, _⨾_}
 use Rattle.model.specs.Tables.{elem, inIds, locationsOf}
 use Rattle.model.specs.Rebuild.{rows, rowsOf}
 use Rattle.model.proofs.Tables.{zeros, elem-head, all}
-use Rattle.rebuild.specs.Checks.{wrong, wrongIn, firstWrong, decided, decidedBy, checked, repeatsFrom, verdictOf}
+use Rattle.rebuild.specs.Checks.{groups, wrong, wrongIn, firstWrong, decided, decidedBy, checked, repeatsFrom, verdictOf}
 use Rattle.rebuild.specs.declared.check.Wrong.{Wrong}
 use Rattle.rebuild.proofs.Repeats.{firstRepeat, places, repeats-are}
 
@@ -175,12 +175,12 @@ module _ (ids slots : ℕ) (is ls : List ℕ) (long : length ls ≡ length is) w
       let b : length fine ≡ length (take (first .row) ls) = ap length (sym fine-take) in
       omega (arith, length-take (first .row) ls)
 
-  pub checked-repeat : (w : Wrong) (f : ℕ) → w ≡ first → f ≡ repeatsFrom slots (take (w .row) ls) 78 0 (length (take (w .row) ls)) → f < w .row
+  pub checked-repeat : (w : Wrong) (f : ℕ) → w ≡ first → f ≡ repeatsFrom slots (take (w .row) ls) groups 0 (length (take (w .row) ls)) → f < w .row
       → wrong f repeatedLocation ≡ checked ids slots is ls
   unfolding checked decided
   checked-repeat w f e q h = ap (λ b. cond b (wrong f repeatedLocation) w) (sym (lt-ltb f (w .row) h)) ∙ ap (decided w) q ∙ ap (decidedBy slots ls) e
 
-  pub checked-first : (w : Wrong) (f : ℕ) → w ≡ first → f ≡ repeatsFrom slots (take (w .row) ls) 78 0 (length (take (w .row) ls)) → w .row ≤ f
+  pub checked-first : (w : Wrong) (f : ℕ) → w ≡ first → f ≡ repeatsFrom slots (take (w .row) ls) groups 0 (length (take (w .row) ls)) → w .row ≤ f
       → w ≡ checked ids slots is ls
   unfolding checked decided
   checked-first w f e q h = ap (λ b. cond b (wrong f repeatedLocation) w) (sym (le-ltb f (w .row) h)) ∙ ap (decided w) q ∙ ap (decidedBy slots ls) e
@@ -190,7 +190,7 @@ pub verdict-is : (s : Store) (is ls : List ℕ) → s .ids ≤ 65536 → s .slot
     → verdictOf (checked (s .ids) (s .slots) is ls) ≡ rows s [] [] 0 (rowsOf is ls)
 unfolding checked
 verdict-is s is ls a b long =
-    ap (λ x. verdictOf (decided (first (s .ids) (s .slots) is ls long) (repeatsFrom (s .slots) x 78 0 (length x)))) (fine-take (s .ids) (s .slots) is ls long)
+    ap (λ x. verdictOf (decided (first (s .ids) (s .slots) is ls long) (repeatsFrom (s .slots) x groups 0 (length x)))) (fine-take (s .ids) (s .slots) is ls long)
     ∙ ap (λ f. verdictOf (decided (first (s .ids) (s .slots) is ls long) f))
-    (repeats-are (s .slots) (fine (s .ids) (s .slots) is ls long) b (good-places (s .ids) (s .slots) (replicate 65536 0) (rowsOf is ls)))
+    (repeats-are (s .slots) (fine (s .ids) (s .slots) is ls long) (good-places (s .ids) (s .slots) (replicate 65536 0) (rowsOf is ls)))
     ∙ sym (rows-are s (replicate 65536 0) [] [] 0 (rowsOf is ls) (rw (length-replicate {A = ℕ} 65536 0) a) (seen-none 65536))

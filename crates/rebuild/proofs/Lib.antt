@@ -1,4 +1,5 @@
 pub mod Zeros
+pub mod Bits
 pub mod Turns
 pub mod Repeats
 pub mod Checked

@@ -15,7 +15,7 @@ use Rattle.address.specs.declared.Unpacked.the-variants as U
 use Rattle.model.specs.Store.{Row}
 use Rattle.model.specs.Rebuild.{rowsOf}
 use Rattle.model.specs.Memory.{putWord, usedWords, wordAt}
-use Rattle.rebuild.specs.Checks.{wrong, isAt, wrongIn, firstWrong, repeatsAt, markedBy, repeatIn, repeatsFrom}
+use Rattle.rebuild.specs.Checks.{wrong, isAt, wrongIn, firstWrong, groups, groupOf, bitOf, withBit, marked, repeatsAt, markedBy, repeatIn, repeatsFrom}
 
 -- ---- unpacking tells locations
 
@@ -65,42 +65,42 @@ firstWrong-end ids slots seen is ls i h = ap (firstWrong ids slots seen i) (rest
 
 -- ---- repeatIn
 
-pub length-markedBy : (k : ℕ) (marks : List ℕ) (l : ℕ) → length (markedBy k marks l) ≡ length marks
+pub length-markedBy : (g : ℕ) (marks : List ℕ) (l : ℕ) → length (markedBy g marks l) ≡ length marks
 unfolding markedBy
-length-markedBy k marks l = go (eqb (l / unit) (k + 1))
+length-markedBy g marks l = go (eqb (groupOf l) g)
   where
-    go : (b : Bool) → length (cond b (set marks (l % unit) 1) marks) ≡ length marks
-    go true = length-set marks (l % unit) 1
+    go : (b : Bool) → length (cond b (marked marks l) marks) ≡ length marks
+    go true = length-set marks (l % unit) (withBit (getD marks (l % unit) 0) (bitOf l))
     go false = refl
 
-module _ (k : ℕ) (marks ls : List ℕ) (i : ℕ) where
-  repeatIn-turn : i < length ls → repeatIn k marks i (drop i ls)
-      ≡ cond (repeatsAt k marks (getD ls i 0)) i (repeatIn k (markedBy k marks (getD ls i 0)) (i + 1) (drop (i + 1) ls))
+module _ (g : ℕ) (marks ls : List ℕ) (i : ℕ) where
+  repeatIn-turn : i < length ls → repeatIn g marks i (drop i ls)
+      ≡ cond (repeatsAt g marks (getD ls i 0)) i (repeatIn g (markedBy g marks (getD ls i 0)) (i + 1) (drop (i + 1) ls))
   unfolding repeatIn
-  repeatIn-turn h = ap (repeatIn k marks i) (drop-cons ls i 0 h)
-      ∙ ap (λ n. cond (repeatsAt k marks (getD ls i 0)) i (repeatIn k (markedBy k marks (getD ls i 0)) (i + 1) (drop n ls))) (sym (add-one i))
+  repeatIn-turn h = ap (repeatIn g marks i) (drop-cons ls i 0 h)
+      ∙ ap (λ n. cond (repeatsAt g marks (getD ls i 0)) i (repeatIn g (markedBy g marks (getD ls i 0)) (i + 1) (drop n ls))) (sym (add-one i))
 
-  pub repeatIn-here : i < length ls → repeatsAt k marks (getD ls i 0) ≡ true → repeatIn k marks i (drop i ls) ≡ i
+  pub repeatIn-here : i < length ls → repeatsAt g marks (getD ls i 0) ≡ true → repeatIn g marks i (drop i ls) ≡ i
   repeatIn-here h b = repeatIn-turn h ∙ rw b
 
-  pub repeatIn-next : i < length ls → repeatsAt k marks (getD ls i 0) ≡ false
-      → repeatIn k marks i (drop i ls) ≡ repeatIn k (markedBy k marks (getD ls i 0)) (i + 1) (drop (i + 1) ls)
+  pub repeatIn-next : i < length ls → repeatsAt g marks (getD ls i 0) ≡ false
+      → repeatIn g marks i (drop i ls) ≡ repeatIn g (markedBy g marks (getD ls i 0)) (i + 1) (drop (i + 1) ls)
   repeatIn-next h b = repeatIn-turn h ∙ rw b
 
-  pub repeatIn-end : length ls ≤ i → repeatIn k marks i (drop i ls) ≡ i
+  pub repeatIn-end : length ls ≤ i → repeatIn g marks i (drop i ls) ≡ i
   unfolding repeatIn
-  repeatIn-end h = ap (repeatIn k marks i) (drop-of-length-le ls h)
+  repeatIn-end h = ap (repeatIn g marks i) (drop-of-length-le ls h)
 
 -- ---- repeatsFrom
 
-pub repeatsFrom-turn : (slots : ℕ) (ls : List ℕ) (k end : ℕ) → k < 78
-    → repeatsFrom slots ls (78 - k) k end ≡ repeatsFrom slots ls (78 - (k + 1)) (k + 1) (repeatIn k (replicate slots 0) 0 (take end ls))
+pub repeatsFrom-turn : (slots : ℕ) (ls : List ℕ) (g end : ℕ) → g < groups
+    → repeatsFrom slots ls (groups - g) g end ≡ repeatsFrom slots ls (groups - (g + 1)) (g + 1) (repeatIn g (replicate slots 0) 0 (take end ls))
 unfolding repeatsFrom
-repeatsFrom-turn slots ls k end h = let e : 78 - k ≡ suc (78 - (k + 1)) = omega arith in ap (λ n. repeatsFrom slots ls n k end) e
+repeatsFrom-turn slots ls g end h = let e : groups - g ≡ suc (groups - (g + 1)) = omega arith in ap (λ n. repeatsFrom slots ls n g end) e
 
-pub repeatsFrom-end : (slots : ℕ) (ls : List ℕ) (k end : ℕ) → 78 ≤ k → repeatsFrom slots ls (78 - k) k end ≡ end
+pub repeatsFrom-end : (slots : ℕ) (ls : List ℕ) (g end : ℕ) → groups ≤ g → repeatsFrom slots ls (groups - g) g end ≡ end
 unfolding repeatsFrom
-repeatsFrom-end slots ls k end h = let e : 78 - k ≡ 0 = omega arith in ap (λ n. repeatsFrom slots ls n k end) e
+repeatsFrom-end slots ls g end h = let e : groups - g ≡ 0 = omega arith in ap (λ n. repeatsFrom slots ls n g end) e
 
 -- ---- used words
 

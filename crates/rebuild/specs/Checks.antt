@@ -2,7 +2,8 @@
 -- are the model's `rows`. Assumes nothing.
 use mathlib.Core.Bool.{Bool, true, false, not, cond, _&&_}
 use mathlib.Core.List.{List, [], _∷_}
-use Prim.Native.Nat.{ℕ, zero, suc, _+_, _/_, _%_}
+use Prim.Native.Nat.{ℕ, zero, suc, _+_, _/_, _%_, _^_}
+use lib.Bits.{bitOr}
 use lib.Dec.{ltb, eqb}
 use lib.ListN.{length, getD, set, take, replicate}
 use Rattle.refusal.specs.Refusals.{outOfRange, noSuchId, repeatedId, repeatedLocation}
@@ -40,22 +41,47 @@ firstWrong ids slots seen i (r ∷ rs) =
 
 -- ---- repeated locations
 
--- whether a location of slab k has a slot that is marked; the marks with it
+-- A location's top byte is 1 to 78, one more than its slab: by eights the slabs are ten groups, and a slot's mark is a byte with a bit for
+-- each slab of a group.
+abbrev pub groups : ℕ
+groups = 10
+
+abbrev pub groupOf : ℕ → ℕ
+groupOf l = l / unit / 8
+
+abbrev pub bitOf : ℕ → ℕ
+bitOf l = l / unit % 8
+
+-- whether a mark has a bit; the mark with it
+unfoldable pub hasBit : ℕ → ℕ → Bool
+hasBit mark b = eqb (mark / 2 ^ b % 2) 1
+
+unfoldable pub withBit : ℕ → ℕ → ℕ
+withBit mark b = bitOr mark (2 ^ b)
+
+-- whether the mark of a location's slot has its bit; the marks with it
+abbrev pub isMarked : List ℕ → ℕ → Bool
+isMarked marks l = hasBit (getD marks (l % unit) 0) (bitOf l)
+
+abbrev pub marked : List ℕ → ℕ → List ℕ
+marked marks l = set marks (l % unit) (withBit (getD marks (l % unit) 0) (bitOf l))
+
+-- whether a location of group g is marked; the marks with it
 unfoldable pub repeatsAt : ℕ → List ℕ → ℕ → Bool
-repeatsAt k marks l = eqb (l / unit) (k + 1) && not (eqb (getD marks (l % unit) 0) 0)
+repeatsAt g marks l = eqb (groupOf l) g && isMarked marks l
 
 unfoldable pub markedBy : ℕ → List ℕ → ℕ → List ℕ
-markedBy k marks l = cond (eqb (l / unit) (k + 1)) (set marks (l % unit) 1) marks
+markedBy g marks l = cond (eqb (groupOf l) g) (marked marks l) marks
 
--- the first of these locations that repeats one of slab k; past the last where there is none
+-- the first of these locations that repeats one of group g; past the last where there is none
 unfoldable pub repeatIn : ℕ → List ℕ → ℕ → List ℕ → ℕ
-repeatIn k marks i [] = i
-repeatIn k marks i (l ∷ ls) = cond (repeatsAt k marks l) i (repeatIn k (markedBy k marks l) (i + 1) ls)
+repeatIn g marks i [] = i
+repeatIn g marks i (l ∷ ls) = cond (repeatsAt g marks l) i (repeatIn g (markedBy g marks l) (i + 1) ls)
 
--- of n slabs from k on, among the first `end` locations
+-- of n groups from g on, among the first `end` locations
 unfoldable pub repeatsFrom : ℕ → List ℕ → ℕ → ℕ → ℕ → ℕ
-repeatsFrom slots ls zero k end = end
-repeatsFrom slots ls (suc n) k end = repeatsFrom slots ls n (k + 1) (repeatIn k (replicate slots 0) 0 (take end ls))
+repeatsFrom slots ls zero g end = end
+repeatsFrom slots ls (suc n) g end = repeatsFrom slots ls n (g + 1) (repeatIn g (replicate slots 0) 0 (take end ls))
 
 -- ---- both: a repeated location before the first wrong row decides
 
@@ -66,7 +92,7 @@ abbrev pub verdictOf : Wrong → Verdict
 verdictOf w = cond (eqb (w .number) 0) ok (refuse (w .number) (w .row))
 
 abbrev pub decidedBy : ℕ → List ℕ → Wrong → Wrong
-decidedBy slots ls w = decided w (repeatsFrom slots (take (w .row) ls) 78 0 (length (take (w .row) ls)))
+decidedBy slots ls w = decided w (repeatsFrom slots (take (w .row) ls) groups 0 (length (take (w .row) ls)))
 
 -- of all rows
 unfoldable pub checked : ℕ → ℕ → List ℕ → List ℕ → Wrong

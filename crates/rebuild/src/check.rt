@@ -1,13 +1,13 @@
 // Which row of a rebuild is wrong first (document 01, "Refusal numbers"): per row 8, 9, 3, 16. A pass with a mark for each id finds
-// the first row with one of the first three; a pass for each slab with a mark for each slot finds the first repeated location before
-// it. So no pass is quadratic, and no lent table is touched.
+// the first row with one of the first three; ten passes with a mark for each slot, a bit of it for each of eight slabs, find the first
+// repeated location before it. So no pass is quadratic, and no lent table is touched.
 ghost use mathlib.Core.Path.{_≡_};
 ghost use mathlib.Core.Bool.{true, false};
-ghost use Prim.Native.Nat.{_≤_};
+ghost use Prim.Native.Nat.{_<_, _≤_};
 ghost use lib.ListN.{length, getD, replicate};
 ghost use Rattle.address.specs.Address.{badSlots, isLocation};
 ghost use Rattle.model.specs.Rebuild.{rowsOf};
-ghost use Rattle.rebuild.specs.Checks.{isAt, wrongIn, firstWrong, repeatsAt, markedBy, repeatIn, repeatsFrom, checked};
+ghost use Rattle.rebuild.specs.Checks.{isAt, wrongIn, firstWrong, groups, hasBit, withBit, repeatsAt, markedBy, repeatIn, repeatsFrom, checked};
 use crate::clear;
 use address::SlabAddress;
 use address::Unpacked;
@@ -24,6 +24,12 @@ pub struct Wrong {
 
 // The weight of a slab in a packed location.
 pub const UNIT: u64 = 0x100_0000_0000_0000;
+
+// One pass serves a group of slabs: as many as a mark has bits.
+const GROUP: u64 = 8;
+
+// The top byte of a location is one more than its slab, 1 to 78: by eights 0 to 9.
+const GROUPS: u64 = 10;
 
 fn mark_at(marks: &[u8], at: usize) -> u8
     ensures { λ r. ⌜ r ≡ getD (now (marks .entry)) at 0 ⌝ }
@@ -94,29 +100,43 @@ fn first_wrong(caps: Capacities, ids: &[u64], row_locations: &[u64]) -> Wrong
     first_wrong_by(caps, &mut seen, ids, row_locations)
 }
 
-// Whether a location of this slab has a slot that is marked; it is marked then.
-fn repeats(marks: &mut [u8], slab: usize, location: u64) -> bool
-    requires { ⌜ slab ≤ 78 ⌝ }
-    ensures { λ r. ⌜ (r ≡ repeatsAt slab (now (marks .entry)) location) × (now (marks .exit) ≡ markedBy slab (now (marks .entry)) location) ⌝ }
+fn has_bit(mark: u8, bit: u64) -> bool
+    requires { ⌜ bit < 8 ⌝ }
+    ensures { λ r. ⌜ r ≡ hasBit mark bit ⌝ }
 {
-    if location / UNIT != slab as u64 + 1 {
+    (mark >> bit) % 2 == 1
+}
+
+fn with_bit(mark: u8, bit: u64) -> u8
+    requires { ⌜ bit < 8 ⌝ }
+    ensures { λ r. ⌜ r ≡ withBit mark bit ⌝ }
+{
+    mark | (1 << bit)
+}
+
+// Whether a location of this group has the bit of its slab in the mark of its slot; it has it then.
+fn repeats(marks: &mut [u8], group: u64, location: u64) -> bool
+    ensures { λ r. ⌜ (r ≡ repeatsAt group (now (marks .entry)) location) × (now (marks .exit) ≡ markedBy group (now (marks .entry)) location) ⌝ }
+{
+    let top = location / UNIT;
+    if top / GROUP != group {
         return false;
     }
     let slot = (location % UNIT) as usize;
-    let old = mark_at(marks, slot);
-    id_allocator::put(marks, slot, HELD);
-    old != FREE
+    let bit = top % GROUP;
+    let mark = mark_at(marks, slot);
+    id_allocator::put(marks, slot, with_bit(mark, bit));
+    has_bit(mark, bit)
 }
 
-// The first of these locations that repeats one of this slab; as many as there are where there is none.
-fn first_in(marks: &mut [u8], slab: usize, locations: &[u64]) -> usize
-    requires { ⌜ slab ≤ 78 ⌝ }
-    ensures { λ r. ⌜ r ≡ repeatIn slab (replicate (length (now (marks .entry))) 0) 0 (now (locations .entry)) ⌝ }
+// The first of these locations that repeats one of this group; as many as there are where there is none.
+fn first_in(marks: &mut [u8], group: u64, locations: &[u64]) -> usize
+    ensures { λ r. ⌜ r ≡ repeatIn group (replicate (length (now (marks .entry))) 0) 0 (now (locations .entry)) ⌝ }
 {
     clear::marks(marks);
     let mut i: usize = 0;
     while i < locations.len() {
-        if repeats(marks, slab, locations[i]) {
+        if repeats(marks, group, locations[i]) {
             return i;
         }
         i += 1;
@@ -125,27 +145,27 @@ fn first_in(marks: &mut [u8], slab: usize, locations: &[u64]) -> usize
 }
 
 fn first_repeat_by(marks: &mut [u8], locations: &[u64]) -> usize
-    ensures { λ r. ⌜ r ≡ repeatsFrom (length (now (marks .entry))) (now (locations .entry)) 78 0 (length (now (locations .entry))) ⌝ }
+    ensures { λ r. ⌜ r ≡ repeatsFrom (length (now (marks .entry))) (now (locations .entry)) groups 0 (length (now (locations .entry))) ⌝ }
 {
     let mut end = locations.len();
-    let mut slab: usize = 0;
-    while slab < tables::SLABS {
-        end = first_in(marks, slab, &locations[..end]);
-        slab += 1;
+    let mut group: u64 = 0;
+    while group < GROUPS {
+        end = first_in(marks, group, &locations[..end]);
+        group += 1;
     }
     end
 }
 
 fn first_repeat_within(slots: usize, marks: &mut [u8], locations: &[u64]) -> usize
     requires { ⌜ slots ≤ length (now marks) ⌝ }
-    ensures { λ r. ⌜ r ≡ repeatsFrom slots (now (locations .entry)) 78 0 (length (now (locations .entry))) ⌝ }
+    ensures { λ r. ⌜ r ≡ repeatsFrom slots (now (locations .entry)) groups 0 (length (now (locations .entry))) ⌝ }
 {
     first_repeat_by(&mut marks[..slots], locations)
 }
 
 fn first_repeat(slots: usize, locations: &[u64]) -> usize
     requires { ⌜ slots ≤ 65536 ⌝ }
-    ensures { λ r. ⌜ r ≡ repeatsFrom slots (now (locations .entry)) 78 0 (length (now (locations .entry))) ⌝ }
+    ensures { λ r. ⌜ r ≡ repeatsFrom slots (now (locations .entry)) groups 0 (length (now (locations .entry))) ⌝ }
 {
     let mut marks = [0u8; 65536];
     first_repeat_within(slots, &mut marks, locations)

@@ -11,11 +11,11 @@ use Rattle.rebuild.proofs.check.first_in.Statement.{statement}
 use Rattle.rebuild.proofs.check.first_in.Tie as tie
 
 abbrev Inv-loop : tie.InvT-loop
-Inv-loop marks₀ slab locations i₀ marks i =
-    (i ≤ length locations) × (length marks ≡ length marks₀) × (repeatIn slab marks i (drop i locations) ≡ repeatIn slab marks₀ 0 locations)
+Inv-loop marks₀ group locations i₀ marks i =
+    (i ≤ length locations) × (length marks ≡ length marks₀) × (repeatIn group marks i (drop i locations) ≡ repeatIn group marks₀ 0 locations)
 
 abbrev μ-loop : tie.MeasureT-loop
-μ-loop marks₀ slab locations i₀ marks i = length locations - i
+μ-loop marks₀ group locations i₀ marks i = length locations - i
 
 marks-requires : tie.Need-marks-requires Inv-loop μ-loop
 marks-requires c κs = search needs
@@ -35,14 +35,14 @@ repeats-requires c κs = search needs
 same-length : tie.Need-same-length Inv-loop μ-loop
 same-length c =
     let b = c .before .before .before .before .before .before .before .loop in
-    ap length (c .before .before .before .repeats .ensures .1) ∙ length-markedBy (c .before .before .before .before .before .before .before .before .before .before .before .before .before .before .args .slab) (b .marks) _ ∙ b .inv .1 ∙ ap length (c .before .before .before .before .before .before .before .before .before .before .marks .ensures) ∙ length-replicate _ 0
+    ap length (c .before .before .before .repeats .ensures .1) ∙ length-markedBy (c .before .before .before .before .before .before .before .before .before .before .before .before .before .before .args .group) (b .marks) _ ∙ b .inv .1 ∙ ap length (c .before .before .before .before .before .before .before .before .before .before .marks .ensures) ∙ length-replicate _ 0
 
 returns : tie.Need-returns Inv-loop μ-loop
 returns c =
     let a = c .before .before .before .before .before .before .before .before .before .before .before .before .before .before .args in
     let b = c .before .before .before .before .before .before .before .loop in
-    sym (repeatIn-here (a .slab) (b .marks) (now (a .locations)) (b .i) (omega arith) (sym (c .before .before .before .repeats .ensures .0) ∙ c .if1 .taken)) ∙ b .inv .2
-    ∙ ap (λ t. repeatIn (a .slab) t 0 (now (a .locations))) (c .before .before .before .before .before .before .before .before .before .before .marks .ensures)
+    sym (repeatIn-here (a .group) (b .marks) (now (a .locations)) (b .i) (omega arith) (sym (c .before .before .before .repeats .ensures .0) ∙ c .if1 .taken)) ∙ b .inv .2
+    ∙ ap (λ t. repeatIn (a .group) t 0 (now (a .locations))) (c .before .before .before .before .before .before .before .before .before .before .marks .ensures)
 
 add-i : tie.Need-add-i Inv-loop μ-loop
 add-i c = search needs
@@ -56,9 +56,9 @@ loop-again c =
     let b = c .before .before .before .before .before .before .before .loop in
     let e = c .before .before .before .repeats .ensures in (
       search needs,
-      ap length (e .1) ∙ length-markedBy (a .slab) (b .marks) _ ∙ b .inv .1,
-      ap (λ t. repeatIn (a .slab) t (b .i + 1) (drop (b .i + 1) (now (a .locations)))) (e .1)
-          ∙ sym (repeatIn-next (a .slab) (b .marks) (now (a .locations)) (b .i) (omega arith) (sym (e .0) ∙ c .if1 .left)) ∙ b .inv .2,
+      ap length (e .1) ∙ length-markedBy (a .group) (b .marks) _ ∙ b .inv .1,
+      ap (λ t. repeatIn (a .group) t (b .i + 1) (drop (b .i + 1) (now (a .locations)))) (e .1)
+          ∙ sym (repeatIn-next (a .group) (b .marks) (now (a .locations)) (b .i) (omega arith) (sym (e .0) ∙ c .if1 .left)) ∙ b .inv .2,
     )
 
 same-length-2 : tie.Need-same-length-2 Inv-loop μ-loop
@@ -68,7 +68,7 @@ returns-2 : tie.Need-returns-2 Inv-loop μ-loop
 returns-2 c =
     let a = c .before .before .before .before .before .before .before .before .args in
     let b = c .before .loop in
-    sym (repeatIn-end (a .slab) (b .marks) (now (a .locations)) (b .i) (omega arith)) ∙ b .inv .2 ∙ ap (λ t. repeatIn (a .slab) t 0 (now (a .locations))) (c .before .before .before .before .marks .ensures)
+    sym (repeatIn-end (a .group) (b .marks) (now (a .locations)) (b .i) (omega arith)) ∙ b .inv .2 ∙ ap (λ t. repeatIn (a .group) t 0 (now (a .locations))) (c .before .before .before .before .marks .ensures)
 
 pub first-in-spec : {M : Type 1} → statement M
 first-in-spec =

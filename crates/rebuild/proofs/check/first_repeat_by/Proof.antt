@@ -1,4 +1,4 @@
--- `rebuild::check::first_repeat_by` meets its contract. The loop's invariant: the slabs left, before the present end, give the first repeat. The measure is how many slabs are left. Assumes nothing.
+-- `rebuild::check::first_repeat_by` meets its contract. The loop's invariant: the groups left, before the present end, give the first repeat. The measure is how many groups are left. Assumes nothing.
 use lib.Seq.{length-take-le}
 use Prim.Native.Nat.{_+_, _≤_, _-_}
 use mathlib.Core.Path.{_≡_, ap, sym, _∙_}
@@ -6,19 +6,19 @@ use lib.ListN.{length, take, replicate}
 use native.Mathlib.Omega.{arith}
 use denote.Ref.{now}
 use borrow.Author.Needs.{needs}
-use Rattle.rebuild.specs.Checks.{repeatIn, repeatsFrom}
+use Rattle.rebuild.specs.Checks.{groups, repeatIn, repeatsFrom}
 use Rattle.rebuild.proofs.Turns.{repeatsFrom-turn, repeatsFrom-end}
 use Rattle.rebuild.proofs.Repeats.{repeatIn-take}
 use Rattle.rebuild.proofs.check.first_repeat_by.Statement.{statement}
 use Rattle.rebuild.proofs.check.first_repeat_by.Tie as tie
 
 abbrev Inv-loop : tie.InvT-loop
-Inv-loop marks₀ locations end₀ slab₀ marks end slab =
-    (slab ≤ 78) × (end ≤ length locations) × (length marks ≡ length marks₀)
-    × (repeatsFrom (length marks₀) locations (78 - slab) slab end ≡ repeatsFrom (length marks₀) locations 78 0 (length locations))
+Inv-loop marks₀ locations end₀ group₀ marks end group =
+    (group ≤ groups) × (end ≤ length locations) × (length marks ≡ length marks₀)
+    × (repeatsFrom (length marks₀) locations (groups - group) group end ≡ repeatsFrom (length marks₀) locations groups 0 (length locations))
 
 abbrev μ-loop : tie.MeasureT-loop
-μ-loop marks₀ locations end₀ slab₀ marks end slab = 78 - slab
+μ-loop marks₀ locations end₀ group₀ marks end group = groups - group
 
 loop-holds : tie.Need-loop-holds Inv-loop μ-loop
 loop-holds c = search needs
@@ -29,8 +29,8 @@ slice-aggregate-first-in c = sym (length-take-le (c .before .before .before .loo
 first-in-requires : tie.Need-first-in-requires Inv-loop μ-loop
 first-in-requires c κs = search needs
 
-add-slab : tie.Need-add-slab Inv-loop μ-loop
-add-slab c = search needs
+add-group : tie.Need-add-group Inv-loop μ-loop
+add-group c = search needs
 
 loop-less : tie.Need-loop-less Inv-loop μ-loop
 loop-less c = search needs
@@ -43,10 +43,10 @@ loop-again c =
     let e = c .before .before .first-in .ensures in
     let n = length (now (a .marks)) in (
       search needs,
-      omega (arith, e, repeatIn-take (b .slab) (replicate (length (b .marks)) 0) 0 (b .end) ls (b .inv .1)),
+      omega (arith, e, repeatIn-take (b .group) (replicate (length (b .marks)) 0) 0 (b .end) ls (b .inv .1)),
       search needs,
-      ap (repeatsFrom n ls (78 - (b .slab + 1)) (b .slab + 1)) (e ∙ ap (λ x. repeatIn (b .slab) (replicate x 0) 0 (take (b .end) ls)) (b .inv .2))
-          ∙ sym (repeatsFrom-turn n ls (b .slab) (b .end) (omega arith)) ∙ b .inv .3,
+      ap (repeatsFrom n ls (groups - (b .group + 1)) (b .group + 1)) (e ∙ ap (λ x. repeatIn (b .group) (replicate x 0) 0 (take (b .end) ls)) (b .inv .2))
+          ∙ sym (repeatsFrom-turn n ls (b .group) (b .end) (omega arith)) ∙ b .inv .3,
     )
 
 same-length : tie.Need-same-length Inv-loop μ-loop
@@ -56,7 +56,7 @@ returns : tie.Need-returns Inv-loop μ-loop
 returns c =
     let a = c .before .before .before .before .args in
     let b = c .before .loop in
-    sym (repeatsFrom-end (length (now (a .marks))) (now (a .locations)) (b .slab) (b .end) (omega arith)) ∙ b .inv .3
+    sym (repeatsFrom-end (length (now (a .marks))) (now (a .locations)) (b .group) (b .end) (omega arith)) ∙ b .inv .3
 
 pub first-repeat-by-spec : {M : Type 1} → statement M
 first-repeat-by-spec =
@@ -67,7 +67,7 @@ first-repeat-by-spec =
     loop-holds
     slice-aggregate-first-in
     first-in-requires
-    add-slab
+    add-group
     loop-less
     loop-again
     same-length

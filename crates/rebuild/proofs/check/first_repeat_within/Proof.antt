@@ -3,7 +3,7 @@ use mathlib.Core.Path.{ap, sym, _∙_}
 use denote.Ref.{now}
 use lib.ListN.{length}
 use lib.Seq.{length-take-le}
-use Rattle.rebuild.specs.Checks.{repeatsFrom}
+use Rattle.rebuild.specs.Checks.{groups, repeatsFrom}
 use borrow.Author.Needs.{needs}
 use Rattle.rebuild.proofs.check.first_repeat_within.Statement.{statement}
 use Rattle.rebuild.proofs.check.first_repeat_within.Tie as tie
@@ -23,7 +23,7 @@ same-length c = search needs
 returns : tie.Need-returns
 returns c =
     let a = c .before .before .before .before .before .before .args in
-    c .before .before .first-repeat-by .ensures ∙ ap (λ n. repeatsFrom n (now (a .locations)) 78 0 (length (now (a .locations)))) (length-take-le (a .slots) (now (a .marks)) (c .before .before .before .before .before .before .pre))
+    c .before .before .first-repeat-by .ensures ∙ ap (λ n. repeatsFrom n (now (a .locations)) groups 0 (length (now (a .locations)))) (length-take-le (a .slots) (now (a .marks)) (c .before .before .before .before .before .before .pre))
 
 pub first-repeat-within-spec : {M : Type 1} → statement M
 first-repeat-within-spec =
