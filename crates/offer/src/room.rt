@@ -44,7 +44,36 @@ fn lacks_few(marks: &[u8], hint: usize, asked: u64) -> bool
     false
 }
 
-// From so many on it is quicker to count all that are free.
+// How many are free.
+fn free_in(marks: &[u8]) -> usize
+    ensures { λ r. ⌜ r ≡ countIf isFree (now (marks .entry)) ⌝ }
+{
+    let none: usize = 0;
+    marks.len() - id_allocator::live(marks, none)
+}
+
+// As many marks as are counted before it is asked whether that is enough.
+const STRETCH: usize = 1536;
+
+// The same, of marks that count as they are, by counting until there are enough.
+fn lacks_many(marks: &[u8], asked: u64) -> bool
+    ensures { λ r. ⌜ r ≡ ltb (countIf isFree (now (marks .entry))) asked ⌝ }
+{
+    let mut free: usize = 0;
+    let mut i: usize = 0;
+    while marks.len() - i >= STRETCH {
+        let end = i + STRETCH;
+        free += free_in(&marks[i..end]);
+        if asked <= free as u64 {
+            return false;
+        }
+        i = end;
+    }
+    free += free_in(&marks[i..]);
+    (free as u64) < asked
+}
+
+// From so many on it is quicker to count.
 const MANY: u64 = 16;
 
 // The same, of few or many.
@@ -54,8 +83,10 @@ fn lacks(marks: &[u8], hint: usize, asked: u64) -> bool
     if asked < MANY {
         return lacks_few(marks, hint, asked);
     }
-    let free = marks.len() - id_allocator::live(marks, hint);
-    (free as u64) < asked
+    if marks.len() <= hint {
+        return true;
+    }
+    lacks_many(&marks[hint..], asked)
 }
 
 fn slab_lacks(slots: usize, slot_marks: &[u8], tallies: &[u64], slab: usize, asked: u64) -> bool

@@ -1,16 +1,22 @@
--- `offer::room::lacks` meets its contract: what is not taken is free. Assumes nothing.
-use mathlib.Core.Path.{_≡_, ap}
-use Prim.Native.Nat.{ℕ, _≤_, _-_}
+-- `offer::room::lacks` meets its contract: what is free is free from the hint on. Assumes nothing.
+use mathlib.Core.Path.{_≡_, sym, ap, _∙_}
+use mathlib.Core.List.{List}
+use Prim.Native.Nat.{ℕ}
 use native.Mathlib.Omega.{arith}
 use lib.Dec.{ltb}
-use lib.ListN.{length}
+use lib.ListN.{drop, length-drop}
+use borrow.Author.Tests.{lt-ltb}
 use borrow.Author.Needs.{needs}
 use Rattle.id_allocator.specs.Marks.{isFree, countIf}
 use Rattle.id_allocator.specs.Counted.{hinted}
-use Rattle.id_allocator.proofs.LawsCount.{countIf-taken-free}
-use Rattle.id_allocator.proofs.LawsHinted.{hinted-length}
+use Rattle.id_allocator.proofs.LawsCount.{countIf-rest, countIf-taken-free}
+use Rattle.id_allocator.proofs.LawsHinted.{hinted-length, hinted-live}
 use Rattle.offer.proofs.room.lacks.Statement.{statement}
 use Rattle.offer.proofs.room.lacks.Tie as tie
+
+hinted-free : (hint : ℕ) (ms : List ℕ) → countIf isFree (hinted hint ms) ≡ countIf isFree (drop hint ms)
+hinted-free hint ms =
+    omega (arith, hinted-live hint ms, hinted-length hint ms, countIf-taken-free (hinted hint ms), countIf-taken-free (drop hint ms), length-drop hint ms)
 
 lacks-few-requires : tie.Need-lacks-few-requires
 lacks-few-requires c κs = search needs
@@ -18,22 +24,40 @@ lacks-few-requires c κs = search needs
 returns : tie.Need-returns
 returns c = search needs
 
-live-requires : tie.Need-live-requires
-live-requires c κs = search needs
-
-sub-free : tie.Need-sub-free
-sub-free c =
-    let a = c .before .before .before .args in
-    let ms = hinted (a .hint) (a .marks .now) in
-    let h : c .live .result ≤ length (a .marks .now) = omega (arith, countIf-taken-free ms, hinted-length (a .hint) (a .marks .now), c .live .ensures) in
-    h
-
 returns-2 : tie.Need-returns-2
 returns-2 c =
     let a = c .before .before .before .args in
-    let ms = hinted (a .hint) (a .marks .now) in
-    let e : length (a .marks .now) - c .live .result ≡ countIf isFree ms = omega (arith, countIf-taken-free ms, hinted-length (a .hint) (a .marks .now), c .live .ensures) in
-    ap (λ (n : ℕ). ltb n (a .asked)) e
+    let ms = a .marks .now in
+    sym (lt-ltb (countIf isFree (hinted (a .hint) ms)) (a .asked)
+    (omega (arith, hinted-free (a .hint) ms, countIf-taken-free (drop (a .hint) ms), length-drop (a .hint) ms, c .if2 .taken, c .before .if1 .left)))
+
+sub-lacks-many : tie.Need-sub-lacks-many
+sub-lacks-many c = search needs
+
+part-lacks-many-start : tie.Need-part-lacks-many-start
+part-lacks-many-start c = search needs
+
+part-lacks-many-end : tie.Need-part-lacks-many-end
+part-lacks-many-end c = search needs
+
+lacks-many-requires : tie.Need-lacks-many-requires
+lacks-many-requires c κs = search needs
+
+returns-3 : tie.Need-returns-3
+returns-3 c =
+    let a = c .before .before .before .before .before .args in
+    let ms = a .marks .now in
+    c .lacks-many .ensures ∙ ap (λ (n : ℕ). ltb n (a .asked)) (countIf-rest isFree ms (a .hint) ∙ sym (hinted-free (a .hint) ms))
 
 pub lacks-spec : {M : Type 1} → statement M
-lacks-spec = tie.close (tie.spec lacks-few-requires returns live-requires sub-free returns-2)
+lacks-spec =
+    tie.close
+    (tie.spec
+    lacks-few-requires
+    returns
+    returns-2
+    sub-lacks-many
+    part-lacks-many-start
+    part-lacks-many-end
+    lacks-many-requires
+    returns-3)
