@@ -1,12 +1,13 @@
 -- Refusal 1 by the lengths of the lent tables themselves: what a code's test of lengths cites. Assumes nothing.
-use mathlib.Core.Path.{_≡_, sym, refl, ap, _∙_}
-use mathlib.Core.Bool.{Bool, true, false}
+use mathlib.Core.Path.{_≡_, ap, _∙_}
+use mathlib.Core.Bool.{true}
 use Prim.Native.Nat.{_*_, ℕ, _≤_}
 use native.Mathlib.Omega.{arith}
 use lib.Dec.{eqb}
 use lib.ListN.{length, drop, length-drop}
 use lib.Seq.{length-take-le}
 use borrow.Author.Tests.{eq-eqb, eqb-true}
+use Rattle.refusal.proofs.Tests.{both-ways}
 use Rattle.address.specs.Address.{slabs}
 use Rattle.id_allocator.proofs.LawsCounted.{counted-length}
 use Rattle.model.specs.Memory.{read, Memory, word, hintWords, waitingWords}
@@ -14,12 +15,6 @@ use Rattle.model.specs.Tables.{idMarksFit, slotMarksFit, batchFits, tall
 use Rattle.model.proofs.Slabs.{length-countedSlabs}
 use Rattle.model.proofs.Tables.{all}
 use Rattle.model.proofs.Words.{batchFits-length, talliesFit-length}
-
--- two tests that say the same
-same-test : (a b : Bool) → (a ≡ true → b ≡ true) → (b ≡ true → a ≡ true) → a ≡ b
-same-test true b f g = sym (f refl)
-same-test false true f g = g refl
-same-test false false f g = refl
 
 pub idMarksFit-read : (m : Memory) → idMarksFit (read m) ≡ eqb (length (m .idMarks)) (m .ids)
 unfolding read
@@ -36,7 +31,7 @@ batch-fits m e = all
     (eq-eqb _ _ (length-drop 257 (m .batch) ∙ omega arith))
 
 pub batchFits-read : (m : Memory) → batchFits (read m) ≡ eqb (length (m .batch)) 513
-batchFits-read m = same-test _ _ (λ e. eq-eqb (length (m .batch)) 513 (batchFits-length m e)) (λ e. batch-fits m (eqb-true (length (m .batch)) 513 e))
+batchFits-read m = both-ways _ _ (λ e. eq-eqb (length (m .batch)) 513 (batchFits-length m e)) (λ e. batch-fits m (eqb-true (length (m .batch)) 513 e))
 
 tallies-fit : (m : Memory) → length (m .tallies) ≡ 473 → talliesFit (read m) ≡ true
 unfolding read
@@ -46,7 +41,7 @@ tallies-fit m e = all (all (all (kind 0 (omega arith)) (kind 1 (omega arith))) (
     kind k h = eq-eqb _ _ (length-take-le 79 (drop (k * 79) (m .tallies)) (rw (length-drop (k * 79) (m .tallies)) (omega arith)))
 
 pub talliesFit-read : (m : Memory) → talliesFit (read m) ≡ eqb (length (m .tallies)) 473
-talliesFit-read m = same-test _ _ (λ e. eq-eqb (length (m .tallies)) 473 (talliesFit-length m e)) (λ e. tallies-fit m (eqb-true (length (m .tallies)) 473 e))
+talliesFit-read m = both-ways _ _ (λ e. eq-eqb (length (m .tallies)) 473 (talliesFit-length m e)) (λ e. tallies-fit m (eqb-true (length (m .tallies)) 473 e))
 
 caps : (m : Memory) → capacities (m .ids) (m .slots) ≡ true → capacities (read m .ids) (read m .slots) ≡ true
 unfolding read

@@ -9,7 +9,7 @@
 //     }
 //
 // What could refuse only reads; what is written comes after it and cannot fail. Whether a slab has slots enough is told by the searches
-// that would take them, so that no slab is counted.
+// that would take them where few are asked for, else by a count that ends when there are enough.
 ghost use mathlib.Core.Path.{_≡_};
 ghost use mathlib.Core.List.{[]};
 ghost use Rattle.model.specs.Verdict.{_⨾_};

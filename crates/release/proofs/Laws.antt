@@ -23,8 +23,9 @@ use Rattle.model.specs.MemoryAfter.{Slots, withIds, withSlots, releasedMarks, r
 use Rattle.model.specs.Verdict.{_⨾_, test}
 use Rattle.model.proofs.Granted.{shape-ok}
 use Rattle.model.proofs.Verdicts.{first-ok}
+use Rattle.model.proofs.Shapes.{slotMarksFit-read}
 use Rattle.tables.specs.Shapes.{releaseFits}
-use Rattle.tables.proofs.Lengths.{releaseFits-read, slotMarksFit-read}
+use Rattle.tables.proofs.Lengths.{releaseFits-read}
 use Rattle.calls.proofs.Calls.{granted-after}
 
 -- ---- the tests

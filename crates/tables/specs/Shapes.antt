@@ -1,4 +1,4 @@
--- Refusal 1 in lengths: what each set of lent tables must have. Nothing here has to be believed: proofs/Shapes.antt shows that each says
+-- Refusal 1 in lengths: what each set of lent tables must have. Nothing here has to be believed: proofs/Lengths.antt shows that each says
 -- what the model's `shape` asks of the store that the tables stand for. Assumes nothing.
 use mathlib.Core.Bool.{Bool, _&&_}
 use Prim.Native.Nat.{ℕ, _*_}
