@@ -10,7 +10,7 @@ use lib.ListN.{length, getD, take, drop}
 use lib.Seq.{drop-cons}
 use lib.Ieee.{Float}
 use Rattle.address.specs.Address.{packing, slabs}
-use Rattle.id_allocator.specs.Marks.{isTaken, countIf, tip}
+use Rattle.marks.specs.Marks.{isTaken, countIf, tip}
 use Rattle.id_allocator.specs.Counted.{counted}
 use Rattle.id_allocator.proofs.LawsCounted.{counted-live, counted-tip}
 use Rattle.fragmentation.specs.Cutoff.{cutoff}

@@ -13,9 +13,9 @@ use lib.Seq.{length-take-le}
 use lib.Ieee.{Float}
 use borrow.Author.Tests.{le-ltb, ltb-false, lt-leb}
 use Rattle.address.specs.Address.{badSlots, packed, packing}
-use Rattle.id_allocator.specs.Marks.{isTaken, countIf, tip}
+use Rattle.marks.specs.Marks.{isTaken, countIf, tip}
 use Rattle.id_allocator.specs.Counted.{hinted}
-use Rattle.id_allocator.proofs.LawsCount.{live-le-tip, tip-le}
+use Rattle.marks.proofs.LawsCount.{live-le-tip, tip-le}
 use Rattle.id_allocator.proofs.LawsHinted.{hinted-length}
 use Rattle.fragmentation.specs.Cutoff.{isRatio, cutoff}
 use Rattle.fragmentation.specs.Answer.{cutoffOf}

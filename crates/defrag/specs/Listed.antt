@@ -8,7 +8,7 @@ use lib.Ieee.{Float}
 use Rattle.address.specs.Address.{packing}
 use Rattle.address.specs.declared.Packed.{Packed}
 use Rattle.address.specs.declared.Packed.the-variants as P
-use Rattle.id_allocator.specs.Marks.{isTaken, countIf, tip}
+use Rattle.marks.specs.Marks.{isTaken, countIf, tip}
 use Rattle.id_allocator.specs.Counted.{hinted}
 use Rattle.fragmentation.specs.Cutoff.{cutoff}
 use Rattle.fragmentation.specs.declared.Cutoff.{Cutoff}

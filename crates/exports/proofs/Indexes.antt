@@ -12,8 +12,8 @@ use lib.Seq.{getD-set-other}
 use borrow.Author.Tests.{ltb-true, ltb-false, not-true, not-false}
 use Rattle.refusal.proofs.Tests.{and-true, or-false}
 use Rattle.address.specs.Address.{slabs}
-use Rattle.id_allocator.specs.Marks.{isTaken, countIf}
-use Rattle.id_allocator.proofs.LawsCount.{countIf-set, countIf-le}
+use Rattle.marks.specs.Marks.{isTaken, countIf}
+use Rattle.marks.proofs.LawsCount.{countIf-set, countIf-le}
 use Rattle.model.specs.Store.{Store, Update, Row, Call, newId, release, offer, commit, abandon, fresh, rebuild, lookup, counters, defrag, truncation, report, refused}
 use Rattle.model.specs.Verdict.{Verdict, ok, refuse, _⨾_, test}
 use Rattle.model.specs.Tables.{capacities, badIds, inIds, elem, kept, pairs}

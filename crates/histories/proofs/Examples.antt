@@ -12,7 +12,7 @@ use borrow.Author.Tests.{eqb-false, not-true}
 use Rattle.refusal.proofs.Tests.{and-true, clash}
 use Rattle.sizes.specs.Sizes.{slabFor, firstFit, slabSizes, fieldWidth}
 use Rattle.address.specs.Address.{badSlots}
-use Rattle.id_allocator.specs.Marks.{isHeld}
+use Rattle.marks.specs.Marks.{isHeld}
 use Rattle.model.specs.Batches.{room}
 use Rattle.model.specs.Defrag.{movesFrom}
 use Rattle.model.specs.Ids.{bumpPending}

@@ -11,8 +11,8 @@ use lib.Seq.{getD-set-other}
 use borrow.Author.Tests.{eqb-true}
 use Rattle.refusal.proofs.Tests.{and-true}
 use Rattle.address.specs.Address.{slabs}
-use Rattle.id_allocator.specs.Marks.{lastTaken, tipOf, hold, letGo, isPending}
-use Rattle.id_allocator.proofs.LawsCount.{lastTaken-le}
+use Rattle.marks.specs.Marks.{lastTaken, tipOf, hold, letGo, isPending}
+use Rattle.marks.proofs.LawsCount.{lastTaken-le}
 use Rattle.model.specs.Batches.{applyRow, applyRows, afterCommit}
 use Rattle.model.specs.Ids.{afterNewId, nextId, bumpPending, afterRelease}
 use Rattle.model.specs.Store.{Store, Row}

@@ -11,7 +11,7 @@ use lib.ListN.{getD, length, drop, length-append, length-drop, length-map}
 use borrow.Author.Tests.{ne-eqb, not-false, not-true, eqb-false, ltb-true}
 use Rattle.refusal.proofs.Tests.{clash, and-true, or-false}
 use Rattle.address.specs.Address.{slabs, isLocation}
-use Rattle.id_allocator.specs.Marks.{isHeld}
+use Rattle.marks.specs.Marks.{isHeld}
 use Rattle.fragmentation.proofs.LawsCut.{one}
 use Rattle.model.specs.Batches.{place, spotFor, idOf, updates, afterOffer, takenBy, afterAbandon}
 use Rattle.model.specs.Store.{Update, Store, Row}

@@ -12,8 +12,8 @@ use lib.Ieee.{Float}
 use borrow.Author.Tests.{eqb-true, ltb-true}
 use Rattle.refusal.proofs.Tests.{and-true, clash}
 use Rattle.address.specs.Address.{packing, slabs}
-use Rattle.id_allocator.specs.Marks.{isTaken}
-use Rattle.id_allocator.proofs.LawsCount.{countIf-le}
+use Rattle.marks.specs.Marks.{isTaken}
+use Rattle.marks.proofs.LawsCount.{countIf-le}
 use Rattle.fragmentation.specs.Cutoff.{cutoff}
 use Rattle.fragmentation.proofs.LawsCutoff.{cutoff-le}
 use Rattle.model.specs.Defrag.{movesIn, movable, consIf, slabMoves, movesFrom, allMoves}

@@ -14,7 +14,7 @@ use borrow.Author.Tests.{lt-ltb}
 use Rattle.refusal.specs.Refusals.{noSuchId, repeatedId, outOfRange, repeatedLocation, wrongShape}
 use Rattle.refusal.proofs.Tests.{clash, and-true}
 use Rattle.address.specs.Address.{slabs, packing, isLocation}
-use Rattle.id_allocator.specs.Marks.{isHeld}
+use Rattle.marks.specs.Marks.{isHeld}
 use Rattle.id_allocator.specs.Written.{opened}
 use Rattle.model.specs.Rebuild.{rows, heldBy, locatedBy, rebuilt, freshStore}
 use Rattle.model.specs.Step.{effect, next, refusal, unless, after, state}

@@ -10,7 +10,7 @@ use lib.Ieee.{Float}
 use borrow.Author.Tests.{eq-eqb, lt-leb}
 use Rattle.refusal.specs.Refusals.{wrongShape, batchOpen, noBatch, tablesDisagree, noSuchId, repeatedId, tooLarge, outOfRange, repeatedLocation, noneFree, tooMany, ratioOutOfRange}
 use Rattle.address.specs.Address.{isLocation, slabs}
-use Rattle.id_allocator.specs.Marks.{isHeld, firstFree}
+use Rattle.marks.specs.Marks.{isHeld, firstFree}
 use Rattle.id_allocator.specs.Written.{opened}
 use Rattle.fragmentation.specs.Cutoff.{isRatio}
 use Rattle.model.specs.Batches.{updates, idOf, noClass, room, badRow, commitRows, abandonRows, takenBy, place, updatesOf}

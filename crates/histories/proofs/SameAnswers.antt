@@ -7,7 +7,7 @@ use lib.Dec.{ltb}
 use lib.ListN.{drop, set, getD, length}
 use Rattle.refusal.specs.Refusals.{nothingToCut}
 use Rattle.sizes.specs.Sizes.{sizeOf}
-use Rattle.id_allocator.specs.Marks.{hold, letGo}
+use Rattle.marks.specs.Marks.{hold, letGo}
 use Rattle.id_allocator.specs.Written.{opened}
 use Rattle.model.specs.Batches.{applyRow, applyRows, afterOffer, idOf, afterCommit, afterAbandon, updatesOf}
 use Rattle.model.specs.Ids.{afterNewId, nextId, afterRelease}

@@ -11,8 +11,8 @@ use lib.Ieee.{Float}
 use borrow.Author.Tests.{eqb-true}
 use Rattle.refusal.proofs.Tests.{and-true}
 use Rattle.address.specs.Address.{packing, slabs}
-use Rattle.id_allocator.specs.Marks.{lastTaken, tipOf, countIf, isTaken}
-use Rattle.id_allocator.proofs.LawsCount.{lastTaken-gt}
+use Rattle.marks.specs.Marks.{lastTaken, tipOf, countIf, isTaken}
+use Rattle.marks.proofs.LawsCount.{lastTaken-gt}
 use Rattle.fragmentation.specs.Cutoff.{cutoff}
 use Rattle.fragmentation.proofs.LawsCutoff.{cutoff-le}
 use Rattle.model.specs.Defrag.{movesIn, movable, consIf, slabMoves, movesFrom, allMoves}

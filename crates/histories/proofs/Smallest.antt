@@ -15,8 +15,8 @@ use borrow.Author.Tests.{ltb-false, leb-false, eq-eqb, lt-ltb, ne-eqb, leb-true}
 use Rattle.refusal.specs.Refusals.{wrongShape, batchOpen, noneFree}
 use Rattle.sizes.specs.Sizes.{slabFor}
 use Rattle.address.specs.Address.{packing, slabs}
-use Rattle.id_allocator.specs.Marks.{countIf, isFree, firstFree, smallestFree}
-use Rattle.id_allocator.proofs.LawsFree.{firstFree-free, firstFree-least}
+use Rattle.marks.specs.Marks.{countIf, isFree, firstFree, smallestFree}
+use Rattle.marks.proofs.LawsFree.{firstFree-free, firstFree-least}
 use Rattle.model.specs.Batches.{asked, room, noClass, updates, idOf, place, spotFor, updatesOf, takenBy}
 use Rattle.model.specs.Ids.{nextId}
 use Rattle.model.specs.Step.{answer, grant, refusal, answerBy}

@@ -14,9 +14,9 @@ use lib.Seq.{getD-set-same, getD-set-other, getD-drop}
 use borrow.Author.Tests.{eqb-true, eqb-false, ltb-true, leb-false}
 use Rattle.refusal.proofs.Tests.{and-true}
 use Rattle.address.specs.Address.{isLocation, unit, slabs}
-use Rattle.id_allocator.specs.Marks.{countIf, isTaken, firstFree, hold, isFree, letGo, isPending}
-use Rattle.id_allocator.proofs.LawsCount.{weight, countIf-set, countIf-cons, tip-tally}
-use Rattle.id_allocator.proofs.LawsFree.{firstFree-free}
+use Rattle.marks.specs.Marks.{countIf, isTaken, firstFree, hold, isFree, letGo, isPending}
+use Rattle.marks.proofs.LawsCount.{weight, countIf-set, countIf-cons, tip-tally}
+use Rattle.marks.proofs.LawsFree.{firstFree-free}
 use Rattle.model.specs.Batches.{place, spotFor, afterOffer, takenBy, applyRow, applyRows, afterCommit, afterAbandon, updatesOf}
 use Rattle.model.specs.Ids.{nextId, afterNewId, bumpPending, afterRelease}
 use Rattle.model.specs.Rebuild.{heldBy, rebuilt, rowsOf, freshStore}

@@ -11,7 +11,7 @@ use lib.Ieee.{Float}
 use Rattle.refusal.specs.Refusals.{noneFree, nothingToCut}
 use Rattle.sizes.specs.Sizes.{slabFor}
 use Rattle.address.specs.Address.{slabs, unit, packing}
-use Rattle.id_allocator.specs.Marks.{isFree, isTaken, countIf, tip}
+use Rattle.marks.specs.Marks.{isFree, isTaken, countIf, tip}
 use Rattle.model.specs.Store.{Store, Update, put, free, Row, Call, newId, release, offer, commit, abandon, fresh, rebuild, lookup, counters, defrag, truncation, report}
 use Rattle.model.specs.Store.{Answer, refused, done, gave, placed, counts, moves, keep, cut}
 use Rattle.model.specs.Verdict.{Verdict, ok, refuse}

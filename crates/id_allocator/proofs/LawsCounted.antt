@@ -8,12 +8,12 @@ use lib.Dec.{eqb, ltb, eqb·suc-zero}
 use lib.ListN.{length, getD, set, length-map, List·getD-map, List·getD-eq-default}
 use borrow.Author.Tests.{ne-eqb, ltb-true, ltb-false}
 use Rattle.refusal.proofs.Tests.{by-test}
-use Rattle.id_allocator.specs.Marks.{isFree, isPending, isHeld, isTaken, firstFree, smallestFree, countIf, above, lastTaken, tipOf, tip, hold, letGo}
+use Rattle.marks.specs.Marks.{isFree, isPending, isHeld, isTaken, firstFree, smallestFree, countIf, above, lastTaken, tipOf, tip, hold, letGo}
 use Rattle.id_allocator.specs.Counted.{settle, hinted, quiet, counted}
 use Rattle.id_allocator.specs.Written.{givenBack, hintBack}
-use Rattle.id_allocator.proofs.LawsFree.{smallestFree-suc}
-use Rattle.id_allocator.proofs.LawsCount.{countIf-map, countIf-none, above-taken}
-use Rattle.id_allocator.proofs.LawsMapped.{map-same, map-set}
+use Rattle.marks.proofs.LawsFree.{smallestFree-suc}
+use Rattle.marks.proofs.LawsCount.{countIf-map, countIf-none, above-taken}
+use Rattle.marks.proofs.LawsMapped.{map-same, map-set}
 use Rattle.id_allocator.proofs.LawsHinted.{hinted-length, hinted-below, hinted-from, hinted-busy, hinted-mark, hinted-take, hinted-take-id, hinted-giveBack}
 
 -- ---- settle

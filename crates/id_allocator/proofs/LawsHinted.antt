@@ -11,12 +11,13 @@ use lib.Seq.{length-front, set-out}
 use borrow.Author.Tests.{ltb-true, ltb-false}
 use borrow.Rule.Slice.PartMut.{putMid}
 use Rattle.refusal.proofs.Tests.{by-test}
-use Rattle.id_allocator.specs.Marks.{isPending, isTaken, firstFree, smallestFree, countIf, lastTaken, hold}
+use Rattle.marks.specs.Marks.{isPending, isTaken, firstFree, smallestFree, countIf, lastTaken, hold}
 use Rattle.id_allocator.specs.Counted.{hinted}
-use Rattle.id_allocator.specs.Written.{turned, opened, givenBack, hintBack}
-use Rattle.id_allocator.proofs.LawsFree.{smallestFree-suc}
-use Rattle.id_allocator.proofs.LawsCount.{above-taken}
-use Rattle.id_allocator.proofs.LawsMapped.{map-same}
+use Rattle.marks.specs.Turned.{turned}
+use Rattle.id_allocator.specs.Written.{opened, givenBack, hintBack}
+use Rattle.marks.proofs.LawsFree.{smallestFree-suc}
+use Rattle.marks.proofs.LawsCount.{above-taken}
+use Rattle.marks.proofs.LawsMapped.{map-same}
 
 -- ---- hold
 pub hold-busy : (m : ℕ) → (m ≡ 0 → ⊥) → hold m ≡ m

@@ -7,11 +7,11 @@ use lib.Dec.{eqb·suc-zero}
 use lib.ListN.{length, take, drop, length-drop, drop-of-length-le}
 use lib.Seq.{take-all}
 use borrow.Rule.Slice.PartMut.{putMid}
-use Rattle.id_allocator.specs.Marks.{isPending, countIf, hold, letGo}
+use Rattle.marks.specs.Marks.{isPending, countIf, hold, letGo}
 use Rattle.id_allocator.specs.Counted.{hinted}
-use Rattle.id_allocator.specs.Written.{turned, released}
-use Rattle.id_allocator.proofs.LawsCount.{countIf-split}
-use Rattle.id_allocator.proofs.LawsMapped.{map-same, mapped, mapped-length, mapped-done, mapped-left, mapped-part}
+use Rattle.marks.specs.Turned.{turned, released}
+use Rattle.marks.proofs.LawsCount.{countIf-split}
+use Rattle.marks.proofs.LawsMapped.{map-same, mapped, mapped-length, mapped-done, mapped-left, mapped-part}
 use Rattle.id_allocator.proofs.LawsHinted.{turned-hold, hinted-at, hinted-pending}
 
 turned-zero : (m : ℕ) → turned 0 0 m ≡ m

@@ -5,7 +5,7 @@ use mathlib.Core.Bool.{cond}
 use mathlib.Core.List.{List, _++_, map}
 use Prim.Native.Nat.{ℕ, zero, suc}
 use lib.ListN.{take, drop}
-use Rattle.id_allocator.specs.Marks.{isPending, hold}
+use Rattle.marks.specs.Marks.{isPending, hold}
 
 -- a pending mark becomes held
 abbrev pub settle : ℕ → ℕ

@@ -1,23 +1,10 @@
--- What is counted and written of the lent marks. Assumes nothing.
-use mathlib.Core.Bool.{Bool, cond}
+-- What is written of the lent marks where a number is given back. Assumes nothing.
+use mathlib.Core.Bool.{cond}
 use mathlib.Core.List.{List, _++_}
 use Prim.Native.Nat.{ℕ, _-_, min}
-use lib.Dec.{eqb, ltb}
+use lib.Dec.{ltb}
 use lib.ListN.{length, take, drop, set}
-use Rattle.id_allocator.specs.Marks.{letGo}
 use Rattle.id_allocator.specs.Counted.{hinted}
-
--- whether a mark is this one
-abbrev pub isMark : ℕ → ℕ → Bool
-isMark mark m = eqb m mark
-
--- each mark `old` becomes `new`
-abbrev pub turned : ℕ → ℕ → ℕ → ℕ
-turned old new m = cond (eqb m old) new m
-
--- a mark once what is pending is free, where a 0 counts as `z`
-abbrev pub released : ℕ → ℕ → ℕ
-released z m = letGo (turned 0 z m)
 
 -- From n up to the hint the marks are written as they count, so that the hint can fall to n.
 abbrev pub opened : ℕ → ℕ → List ℕ → List ℕ

@@ -15,7 +15,7 @@ use borrow.Author.Tests.{ltb-true}
 use Rattle.sizes.specs.Sizes.{slabFor}
 use Rattle.address.specs.Address.{isLocation, unit, slabs, packing}
 use Rattle.id_allocator.specs.Counted.{counted, settle}
-use Rattle.id_allocator.specs.Marks.{firstFree}
+use Rattle.marks.specs.Marks.{firstFree}
 use Rattle.id_allocator.proofs.LawsCounted.{counted-first-pending, counted-pending}
 use Rattle.model.specs.Batches.{spot, spotFor, place, idOf, takenBy, afterOffer, afterAbandon, applyRow, applyRows, afterCommit}
 use Rattle.model.specs.Memory.{word, read, talliesOf, wordAt, grantedWords, putWord, usedWords, batchOf, Memory, freedWords, waitingWords, hintWords}

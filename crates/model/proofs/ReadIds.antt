@@ -11,7 +11,7 @@ use lib.ListN.{length, set, getD, length-set, take, drop, take-append-drop, repl
 use lib.Seq.{getD-drop}
 use Rattle.address.specs.Address.{slabs, isLocation, unit}
 use Rattle.id_allocator.specs.Counted.{counted, settle, quiet}
-use Rattle.id_allocator.specs.Marks.{hold, isFree}
+use Rattle.marks.specs.Marks.{hold, isFree}
 use Rattle.id_allocator.proofs.LawsCounted.{counted-take-id, counted-smallestFree, settle-busy}
 use Rattle.id_allocator.proofs.LawsHinted.{hinted-zero}
 use Rattle.model.specs.Ids.{nextId, afterNewId}

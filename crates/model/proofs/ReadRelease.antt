@@ -9,7 +9,7 @@ use native.Mathlib.Omega.{arith}
 use lib.ListN.{length, length-set, length-map}
 use Rattle.address.specs.Address.{slabs}
 use Rattle.id_allocator.specs.Counted.{hinted, counted}
-use Rattle.id_allocator.specs.Marks.{countIf, isPending, letGo}
+use Rattle.marks.specs.Marks.{countIf, isPending, letGo}
 use Rattle.id_allocator.proofs.LawsCounted.{counted-none-pending}
 use Rattle.id_allocator.proofs.LawsHinted.{hinted-length}
 use Rattle.model.specs.Ids.{bumpPending, afterRelease}

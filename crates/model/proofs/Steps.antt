@@ -9,7 +9,7 @@ use native.Mathlib.Omega.{arith}
 use lib.ListN.{length, length-take, length-drop, set, length-set, length-map}
 use Rattle.address.specs.Address.{slabs}
 use Rattle.id_allocator.specs.Counted.{counted, hinted, settle, quiet}
-use Rattle.id_allocator.specs.Marks.{firstFree, smallestFree, letGo, countIf, isPending}
+use Rattle.marks.specs.Marks.{firstFree, smallestFree, letGo, countIf, isPending}
 use Rattle.id_allocator.specs.Written.{hintBack, givenBack}
 use Rattle.id_allocator.proofs.LawsCounted.{counted-take, counted-smallestFree, counted-first-pending, counted-pending, counted-giveBack, counted-length, counted-quiet-release, counted-release}
 use Rattle.model.specs.Memory.{word, countedSlabs, hintWords, waitingWords, countedBy, putWord, usedWords, grantedWords, wordAt, freedWords}

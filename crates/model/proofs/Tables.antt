@@ -14,8 +14,8 @@ use lib.Seq.{getD-set-other, getD-set-same, getD-take, getD-drop, drop-set-add, 
 use borrow.Author.Tests.{eq-eqb, eqb-true, eqb-false, leb-true, ltb-true, le-leb, lt-ltb}
 use Rattle.refusal.proofs.Tests.{clash, or-false, and-true}
 use Rattle.address.specs.Address.{unit, isLocation, slabs, packing}
-use Rattle.id_allocator.specs.Marks.{firstFree}
-use Rattle.id_allocator.proofs.LawsFree.{firstFree-free}
+use Rattle.marks.specs.Marks.{firstFree}
+use Rattle.marks.proofs.LawsFree.{firstFree-free}
 use Rattle.model.specs.Batches.{spot}
 use Rattle.model.specs.Tables.{at, elem, write, writeAll, part, bump}
 

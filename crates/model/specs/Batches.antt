@@ -7,7 +7,7 @@ use lib.ListN.{length, set, drop}
 use Rattle.refusal.specs.Refusals.{tooLarge, noSuchId, repeatedId, noneFree, tablesDisagree}
 use Rattle.sizes.specs.Sizes.{slabFor}
 use Rattle.address.specs.Address.{slabs, packing, isLocation}
-use Rattle.id_allocator.specs.Marks.{isFree, countIf, firstFree}
+use Rattle.marks.specs.Marks.{isFree, countIf, firstFree}
 use Rattle.model.specs.Store.{Store, withIdMarks, withLocations, withSlotMarks, withOwners, withBatch, withTallies, Update, put, free, Row}
 use Rattle.model.specs.Verdict.{Verdict, ok, _⨾_, test}
 use Rattle.model.specs.Tables.{write, writeAll, part, locationOf, inIds, heldId, badLocation, locationsOf, elem, kept, shut, bumpEach, useEach}

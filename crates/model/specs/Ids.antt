@@ -4,7 +4,7 @@ use mathlib.Core.List.{List, [], _∷_, map}
 use Prim.Native.Nat.{ℕ, zero, suc, _+_, _%_, _^_}
 use lib.ListN.{getD, set, drop}
 use Rattle.address.specs.Address.{slabs}
-use Rattle.id_allocator.specs.Marks.{isFree, isPending, countIf, smallestFree, hold, letGo}
+use Rattle.marks.specs.Marks.{isFree, isPending, countIf, smallestFree, hold, letGo}
 use Rattle.model.specs.Store.{Tallies, Store, withIdMarks, withSlotMarks, withTallies, Sums}
 use Rattle.model.specs.Tables.{part, bump}
 

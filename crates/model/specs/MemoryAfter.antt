@@ -6,7 +6,7 @@ use Prim.Native.Nat.{ℕ, zero, suc, _+_, _*_, _/_, _%_, max, min, pred}
 use lib.ListN.{length, getD, set, take, drop, replicate}
 use lib.Seq.{sets}
 use Rattle.address.specs.Address.{slabs, unit, isLocation}
-use Rattle.id_allocator.specs.Marks.{isFree, isPending, countIf, hold, letGo}
+use Rattle.marks.specs.Marks.{isFree, isPending, countIf, hold, letGo}
 use Rattle.id_allocator.specs.Counted.{settle, hinted}
 use Rattle.id_allocator.specs.Written.{givenBack, hintBack}
 use Rattle.model.specs.Store.{Row, Call, newId, release, offer, commit, abandon, fresh, rebuild, lookup, counters, defrag, truncation, report}

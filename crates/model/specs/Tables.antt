@@ -6,7 +6,7 @@ use Prim.Native.Nat.{ℕ, zero, suc, _+_, _*_, _/_, _%_, _^_, pred}
 use lib.Dec.{ltb, eqb}
 use lib.ListN.{length, getD, set, take, drop}
 use Rattle.address.specs.Address.{slabs, unit, isLocation, badSlots}
-use Rattle.id_allocator.specs.Marks.{isHeld, tip, countIf, isTaken}
+use Rattle.marks.specs.Marks.{isHeld, tip, countIf, isTaken}
 use Rattle.model.specs.Store.{Batch, Store, Row}
 
 -- ---- slots

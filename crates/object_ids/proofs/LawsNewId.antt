@@ -9,7 +9,7 @@ use lib.ListN.{length, getD, set}
 use borrow.Author.Tests.{eqb-true}
 use Rattle.refusal.proofs.Tests.{and-true}
 use Rattle.refusal.specs.Refusals.{wrongShape, batchOpen, noneFree}
-use Rattle.id_allocator.specs.Marks.{isFree, smallestFree, hold}
+use Rattle.marks.specs.Marks.{isFree, smallestFree, hold}
 use Rattle.id_allocator.specs.Counted.{hinted, quiet, counted}
 use Rattle.id_allocator.proofs.LawsCounted.{counted-smallestFree, counted-length, settle-free}
 use Rattle.model.specs.Memory.{Memory, read, word, hintWords, waitingWords}

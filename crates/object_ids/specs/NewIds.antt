@@ -2,7 +2,7 @@
 use mathlib.Core.Bool.{cond, _&&_}
 use mathlib.Core.List.{List, []}
 use Prim.Native.Nat.{ℕ}
-use Rattle.id_allocator.specs.Marks.{isFree}
+use Rattle.marks.specs.Marks.{isFree}
 use Rattle.tables.specs.declared.capacities.Capacities.{Capacities}
 use Rattle.model.specs.Store.{Answer, gave, refused}
 use Rattle.model.specs.Memory.{Memory}

@@ -2,7 +2,7 @@
 ghost use mathlib.Core.Path.{_≡_};
 ghost use Prim.Native.Nat.{_<_};
 ghost use lib.ListN.{length, getD, set};
-ghost use Rattle.id_allocator.specs.Marks.{hold};
+ghost use Rattle.marks.specs.Marks.{hold};
 ghost use Rattle.model.specs.Store.{newId};
 ghost use Rattle.model.specs.Step.{answer};
 ghost use Rattle.model.specs.Memory.{read, word, hintWords};
@@ -39,8 +39,8 @@ fn next_id(caps: Capacities, id_marks: &[u8], batch: &[u64], tallies: &[u64]) ->
 fn held(mark: u8) -> u8
     ensures { λ r. ⌜ r ≡ hold mark ⌝ }
 {
-    if mark == id_allocator::FREE {
-        id_allocator::HELD
+    if mark == marks::FREE {
+        marks::HELD
     } else {
         mark
     }
@@ -50,7 +50,7 @@ fn held(mark: u8) -> u8
 fn taken(mark: u8, hint: u64) -> u64
     ensures { λ r. ⌜ r ≡ takes mark hint ⌝ }
 {
-    if mark != id_allocator::FREE {
+    if mark != marks::FREE {
         return 1;
     }
     if hint == 0 { 2 } else { 1 }
@@ -64,7 +64,7 @@ fn hold_id(id_marks: &mut [u8], tallies: &mut [u64], id: usize)
 {
     let first = id_marks[0];
     let hint = tables::get(tallies, tables::HINT, IDS);
-    id_allocator::put(id_marks, id, id_allocator::HELD);
+    id_allocator::put(id_marks, id, marks::HELD);
     id_allocator::put(id_marks, 0, held(first));
     tables::add(tallies, tables::GRANTED, IDS, taken(first, hint));
     tables::put(tallies, tables::USED, IDS, 1);

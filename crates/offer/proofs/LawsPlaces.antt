@@ -20,7 +20,7 @@ use Rattle.address.specs.declared.Packed.{Packed}
 use Rattle.address.specs.declared.Unpacked.{Unpacked}
 use Rattle.address.specs.declared.Unpacked.the-variants as U
 use Rattle.address.proofs.Laws.{unpacked-at, slots-range}
-use Rattle.id_allocator.specs.Marks.{firstFree, smallestFree}
+use Rattle.marks.specs.Marks.{firstFree, smallestFree}
 use Rattle.id_allocator.specs.Counted.{hinted, counted}
 use Rattle.id_allocator.proofs.LawsCounted.{counted-length, counted-smallestFree}
 use Rattle.model.specs.Batches.{updateOf, updatesOf, spot, spotFor, place}

@@ -14,10 +14,10 @@ use borrow.Author.Tests.{eqb-true, eqb-false, ne-eqb, ltb-true, ltb-false}
 use Rattle.refusal.specs.Refusals.{noneFree}
 use Rattle.refusal.proofs.Tests.{by-test}
 use Rattle.address.specs.Address.{badSlots}
-use Rattle.id_allocator.specs.Marks.{isFree, countIf, smallestFree}
+use Rattle.marks.specs.Marks.{isFree, countIf, smallestFree}
 use Rattle.id_allocator.specs.Counted.{hinted}
-use Rattle.id_allocator.specs.Written.{isMark}
-use Rattle.id_allocator.proofs.LawsFree.{smallestFree-some}
+use Rattle.marks.specs.Turned.{isMark}
+use Rattle.marks.proofs.LawsFree.{smallestFree-some}
 use Rattle.id_allocator.proofs.LawsCounted.{counted-free}
 use Rattle.model.specs.Batches.{updateOf, updatesOf, asks, asked, room}
 use Rattle.model.specs.Memory.{word, hintWords, waitingWords}

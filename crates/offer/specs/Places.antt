@@ -7,7 +7,7 @@ use lib.Dec.{ltb}
 use Rattle.address.specs.Address.{slabs, packed}
 use Rattle.address.specs.declared.Packed.{Packed}
 use Rattle.address.specs.declared.Packed.the-variants as P
-use Rattle.id_allocator.specs.Marks.{smallestFree}
+use Rattle.marks.specs.Marks.{smallestFree}
 use Rattle.id_allocator.specs.Counted.{hinted}
 use Rattle.model.specs.Memory.{word, hintWords}
 use Rattle.model.specs.MemoryAfter.{Slots, takeSlot}

@@ -5,7 +5,7 @@ use Prim.Native.Nat.{ℕ, zero, suc, _+_}
 use lib.Dec.{ltb}
 use lib.ListN.{getD, replicate}
 use Rattle.refusal.specs.Refusals.{noneFree}
-use Rattle.id_allocator.specs.Marks.{isFree, countIf}
+use Rattle.marks.specs.Marks.{isFree, countIf}
 use Rattle.id_allocator.specs.Counted.{hinted}
 use Rattle.model.specs.Memory.{word, hintWords}
 use Rattle.model.specs.Tables.{bump}

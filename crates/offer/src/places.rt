@@ -45,7 +45,7 @@ fn take_slot(slots: usize, slot_marks: &mut [u8], tallies: &mut [u64], location:
     };
     let slab = address.slab;
     let slot = address.slot;
-    id_allocator::put(slot_marks, slab * slots + slot, id_allocator::HELD);
+    id_allocator::put(slot_marks, slab * slots + slot, marks::HELD);
     add(tallies, GRANTED, slab + 1, 1);
     put(tallies, USED, slab + 1, 1);
     put(tallies, HINT, slab + 1, slot as u64 + 1);

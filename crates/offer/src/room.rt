@@ -2,7 +2,7 @@
 ghost use mathlib.Core.Path.{_≡_};
 ghost use Prim.Native.Nat.{_≤_};
 ghost use lib.Dec.{ltb};
-ghost use Rattle.id_allocator.specs.Marks.{isFree, countIf};
+ghost use Rattle.marks.specs.Marks.{isFree, countIf};
 ghost use Rattle.id_allocator.specs.Counted.{hinted};
 ghost use Rattle.offer.specs.Verdicts.{verdictOf};
 ghost use Rattle.offer.specs.Room.{freeIn, roomIn, tallied, noneAsked};

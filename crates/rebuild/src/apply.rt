@@ -11,7 +11,7 @@ ghost use Rattle.model.specs.MemoryAfter.{useSlots};
 use crate::check::UNIT;
 use crate::check::is_location;
 use crate::clear;
-use id_allocator::HELD;
+use marks::HELD;
 
 // The used word of the ids: 1 where there is a row.
 fn any(rows: usize) -> u64

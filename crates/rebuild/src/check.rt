@@ -11,8 +11,8 @@ ghost use Rattle.rebuild.specs.Checks.{isAt, wrongIn, firstWrong, groups
 use crate::clear;
 use address::SlabAddress;
 use address::Unpacked;
-use id_allocator::FREE;
-use id_allocator::HELD;
+use marks::FREE;
+use marks::HELD;
 use refusal::Refusal;
 use tables::Capacities;
 

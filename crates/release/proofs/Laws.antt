@@ -13,7 +13,7 @@ use borrow.Rule.Slice.PartMut.{putMid}
 use Rattle.refusal.specs.Refusals.{wrongShape, batchOpen}
 use Rattle.refusal.proofs.Tests.{and-true}
 use Rattle.address.specs.Address.{slabs}
-use Rattle.id_allocator.specs.Marks.{isPending, countIf, letGo}
+use Rattle.marks.specs.Marks.{isPending, countIf, letGo}
 use Rattle.id_allocator.specs.Counted.{hinted}
 use Rattle.model.specs.Store.{done, release}
 use Rattle.model.specs.Tables.{part, bump, idMarksFit, slotMarksFit, batchFits, talliesFit}

@@ -6,9 +6,9 @@
 // peek reads the mark by them, as 0, 1 or 2, and a used word as 0 or 1.
 use answers::words;
 use answers::words::Pair;
-use id_allocator::FREE;
-use id_allocator::HELD;
-use id_allocator::PENDING;
+use marks::FREE;
+use marks::HELD;
+use marks::PENDING;
 use tables::FREED;
 use tables::GRANTED;
 use tables::HIGH;

@@ -8,7 +8,7 @@ use lib.ListN.{getD}
 use Rattle.address.specs.Address.{slabs, badSlots, unpacked}
 use Rattle.address.specs.declared.Unpacked.{Unpacked}
 use Rattle.address.specs.declared.Unpacked.the-variants as U
-use Rattle.id_allocator.specs.Marks.{isHeld}
+use Rattle.marks.specs.Marks.{isHeld}
 use Rattle.model.specs.Tables.{part}
 use Rattle.model.specs.Memory.{countedBy}
 

@@ -16,9 +16,9 @@ use Rattle.refusal.proofs.Tests.{and-true, or-false}
 use Rattle.sizes.specs.Sizes.{sizeOf, slabSizes}
 use Rattle.sizes.proofs.Laws.{allBelow-at}
 use Rattle.address.specs.Address.{slabs}
-use Rattle.id_allocator.specs.Marks.{tip}
+use Rattle.marks.specs.Marks.{tip}
 use Rattle.id_allocator.specs.Counted.{hinted}
-use Rattle.id_allocator.proofs.LawsCount.{tip-le}
+use Rattle.marks.proofs.LawsCount.{tip-le}
 use Rattle.id_allocator.proofs.LawsCounted.{counted-tip}
 use Rattle.model.specs.Store.{refused, done, gave, keep, cut, truncation, report, Store}
 use Rattle.model.specs.Tables.{part, capacities, slabTip, allocators}

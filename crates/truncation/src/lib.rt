@@ -12,7 +12,7 @@ ghost use mathlib.Core.Path.{_≡_};
 ghost use Prim.Native.Nat.{_*_, _<_, _≤_, suc, max};
 ghost use lib.Dec.{ltb};
 ghost use lib.ListN.{length};
-ghost use Rattle.id_allocator.specs.Marks.{tip};
+ghost use Rattle.marks.specs.Marks.{tip};
 ghost use Rattle.id_allocator.specs.Counted.{hinted};
 ghost use Rattle.model.specs.Store.{truncation, report, gave};
 ghost use Rattle.model.specs.Tables.{part, slabTip};

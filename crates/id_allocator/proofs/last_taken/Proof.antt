@@ -4,8 +4,8 @@ use native.Mathlib.Omega.{arith}
 use denote.Ref.{now}
 use lib.ListN.{drop, length-drop}
 use borrow.Author.Needs.{needs}
-use Rattle.id_allocator.specs.Marks.{lastTaken}
-use Rattle.id_allocator.proofs.LawsCount.{lastTaken-rest, lastTaken-le}
+use Rattle.marks.specs.Marks.{lastTaken}
+use Rattle.marks.proofs.LawsCount.{lastTaken-rest, lastTaken-le}
 use Rattle.id_allocator.proofs.LawsHinted.{hinted-at, hinted-lastTaken}
 use Rattle.id_allocator.proofs.last_taken.Statement.{statement}
 use Rattle.id_allocator.proofs.last_taken.Tie as tie
@@ -13,39 +13,39 @@ use Rattle.id_allocator.proofs.last_taken.Tie as tie
 smaller-requires : tie.Need-smaller-requires
 smaller-requires c κs = search needs
 
-sub-last-of : tie.Need-sub-last-of
-sub-last-of c = search needs
+sub-last-taken : tie.Need-sub-last-taken
+sub-last-taken c = search needs
 
-part-last-of-start : tie.Need-part-last-of-start
-part-last-of-start c = search needs
+part-last-taken-start : tie.Need-part-last-taken-start
+part-last-taken-start c = search needs
 
-part-last-of-end : tie.Need-part-last-of-end
-part-last-of-end c = search needs
+part-last-taken-end : tie.Need-part-last-taken-end
+part-last-taken-end c = search needs
 
-last-of-requires : tie.Need-last-of-requires
-last-of-requires c κs = search needs
+last-taken-requires : tie.Need-last-taken-requires
+last-taken-requires c κs = search needs
 
 add-result : tie.Need-add-result
 add-result c =
     let ms = now (c .before .before .before .before .args .marks) in
     let h = c .before .before .smaller .result in
-    omega (arith, c .last-of .ensures, lastTaken-rest ms h, lastTaken-le (drop h ms), length-drop h ms)
+    omega (arith, c .last-taken .ensures, lastTaken-rest ms h, lastTaken-le (drop h ms), length-drop h ms)
 
 returns : tie.Need-returns
 returns c =
     let a = c .before .before .before .before .args in
     let ms = now (a .marks) in
     let h = c .before .before .smaller .result in
-    omega (arith, c .last-of .ensures, lastTaken-rest ms h, hinted-lastTaken h ms, ap lastTaken (hinted-at (a .hint) h ms (c .before .before .smaller .ensures)))
+    omega (arith, c .last-taken .ensures, lastTaken-rest ms h, hinted-lastTaken h ms, ap lastTaken (hinted-at (a .hint) h ms (c .before .before .smaller .ensures)))
 
 pub last-taken-spec : {M : Type 1} → statement M
 last-taken-spec =
     tie.close
     (tie.spec
     smaller-requires
-    sub-last-of
-    part-last-of-start
-    part-last-of-end
-    last-of-requires
+    sub-last-taken
+    part-last-taken-start
+    part-last-taken-end
+    last-taken-requires
     add-result
     returns)

@@ -4,8 +4,8 @@ use native.Mathlib.Omega.{arith}
 use denote.Ref.{now}
 use lib.ListN.{drop, length-drop}
 use borrow.Author.Needs.{needs}
-use Rattle.id_allocator.specs.Marks.{isFree, isTaken, countIf}
-use Rattle.id_allocator.proofs.LawsCount.{countIf-rest, countIf-taken-free}
+use Rattle.marks.specs.Marks.{isFree, isTaken, countIf}
+use Rattle.marks.proofs.LawsCount.{countIf-rest, countIf-taken-free}
 use Rattle.id_allocator.proofs.LawsHinted.{hinted-at, hinted-live}
 use Rattle.id_allocator.proofs.live.Statement.{statement}
 use Rattle.id_allocator.proofs.live.Tie as tie

@@ -1,8 +1,8 @@
 -- `id_allocator::tip` meets its contract: by the last taken number, and where there is none by the used word. Assumes nothing.
 use mathlib.Core.Path.{sym, ap, _∙_}
 use borrow.Author.Needs.{needs}
-use Rattle.id_allocator.specs.Marks.{tipOf}
-use Rattle.id_allocator.proofs.LawsCount.{tipOf-taken, tipOf-used}
+use Rattle.marks.specs.Marks.{tipOf}
+use Rattle.marks.proofs.LawsCount.{tipOf-taken, tipOf-used}
 use Rattle.id_allocator.proofs.tip.Statement.{statement}
 use Rattle.id_allocator.proofs.tip.Tie as tie
 

@@ -3,7 +3,7 @@
 use mathlib.Core.Path.{_≡_, sym, ap, _∙_}
 use mathlib.Core.List.{map}
 use borrow.Author.Needs.{needs}
-use Rattle.id_allocator.specs.Marks.{letGo}
+use Rattle.marks.specs.Marks.{letGo}
 use Rattle.id_allocator.specs.Counted.{hinted}
 use Rattle.model.specs.Memory.{word, hintWords, waitingWords}
 use Rattle.release.proofs.Laws.{quiet-marks, quiet-words, waiting-marks, waiting-words}

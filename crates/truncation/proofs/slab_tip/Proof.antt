@@ -6,7 +6,7 @@ use native.Mathlib.Numerals.{add-one}
 use native.Mathlib.Omega.{arith}
 use lib.ListN.{getD}
 use borrow.Author.Needs.{needs}
-use Rattle.id_allocator.specs.Marks.{tip}
+use Rattle.marks.specs.Marks.{tip}
 use Rattle.id_allocator.specs.Counted.{hinted}
 use Rattle.truncation.proofs.Laws.{slab-within, part-of}
 use Rattle.truncation.proofs.slab_tip.Statement.{statement}

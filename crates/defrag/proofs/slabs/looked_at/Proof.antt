@@ -2,7 +2,7 @@
 use native.Mathlib.Omega.{arith}
 use mathlib.Core.Path.{ap, _∙_}
 use denote.Ref.{now}
-use Rattle.id_allocator.specs.Marks.{isTaken, countIf, tip}
+use Rattle.marks.specs.Marks.{isTaken, countIf, tip}
 use Rattle.defrag.specs.Listed.{startOf}
 use Rattle.defrag.proofs.Spans.{inside, below, marks-are, used-is, span-is}
 use borrow.Author.Needs.{needs}

@@ -6,7 +6,7 @@ use native.Mathlib.Omega.{arith}
 use lib.ListN.{getD}
 use borrow.Author.Tests.{not-true, not-false, lt-ltb, le-ltb, le-leb, lt-leb}
 use borrow.Author.Needs.{needs}
-use Rattle.id_allocator.specs.Marks.{smallestFree}
+use Rattle.marks.specs.Marks.{smallestFree}
 use Rattle.id_allocator.specs.Counted.{hinted}
 use Rattle.model.specs.Verdict.{_⨾_, test}
 use Rattle.object_ids.proofs.LawsNewId.{newId-answer}

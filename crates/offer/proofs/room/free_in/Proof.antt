@@ -2,8 +2,8 @@
 use mathlib.Core.Path.{_≡_, ap, _∙_}
 use native.Mathlib.Omega.{arith}
 use borrow.Author.Needs.{needs}
-use Rattle.id_allocator.specs.Marks.{isTaken, countIf}
-use Rattle.id_allocator.proofs.LawsCount.{countIf-taken-free}
+use Rattle.marks.specs.Marks.{isTaken, countIf}
+use Rattle.marks.proofs.LawsCount.{countIf-taken-free}
 use Rattle.id_allocator.proofs.LawsHinted.{hinted-zero}
 use Rattle.offer.proofs.room.free_in.Statement.{statement}
 use Rattle.offer.proofs.room.free_in.Tie as tie

@@ -7,9 +7,9 @@ use lib.Dec.{ltb}
 use lib.ListN.{drop, length-drop}
 use borrow.Author.Tests.{lt-ltb}
 use borrow.Author.Needs.{needs}
-use Rattle.id_allocator.specs.Marks.{isFree, countIf}
+use Rattle.marks.specs.Marks.{isFree, countIf}
 use Rattle.id_allocator.specs.Counted.{hinted}
-use Rattle.id_allocator.proofs.LawsCount.{countIf-rest, countIf-taken-free}
+use Rattle.marks.proofs.LawsCount.{countIf-rest, countIf-taken-free}
 use Rattle.id_allocator.proofs.LawsHinted.{hinted-length, hinted-live}
 use Rattle.offer.proofs.room.lacks.Statement.{statement}
 use Rattle.offer.proofs.room.lacks.Tie as tie

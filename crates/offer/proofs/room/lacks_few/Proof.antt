@@ -6,9 +6,9 @@ use native.Mathlib.Omega.{arith}
 use lib.ListN.{length, drop}
 use borrow.Author.Tests.{lt-ltb, le-ltb}
 use borrow.Author.Needs.{needs}
-use Rattle.id_allocator.specs.Marks.{isFree, countIf}
+use Rattle.marks.specs.Marks.{isFree, countIf}
 use Rattle.id_allocator.specs.Counted.{hinted}
-use Rattle.id_allocator.proofs.LawsFree.{smallestFree-count}
+use Rattle.marks.proofs.LawsFree.{smallestFree-count}
 use Rattle.id_allocator.proofs.LawsHinted.{hinted-length}
 use Rattle.offer.proofs.LawsRoom.{none-left}
 use Rattle.offer.proofs.room.lacks_few.Statement.{statement}

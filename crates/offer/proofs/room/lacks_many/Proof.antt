@@ -8,8 +8,8 @@ use lib.Dec.{ltb}
 use lib.ListN.{length, take, drop}
 use borrow.Author.Tests.{le-ltb}
 use borrow.Author.Needs.{needs}
-use Rattle.id_allocator.specs.Marks.{isFree, countIf}
-use Rattle.id_allocator.proofs.LawsCount.{countIf-block, countIf-rest, countIf-le}
+use Rattle.marks.specs.Marks.{isFree, countIf}
+use Rattle.marks.proofs.LawsCount.{countIf-block, countIf-rest, countIf-le}
 use Rattle.offer.proofs.room.lacks_many.Statement.{statement}
 use Rattle.offer.proofs.room.lacks_many.Tie as tie
 

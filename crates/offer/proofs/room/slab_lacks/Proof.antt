@@ -4,7 +4,7 @@ use native.Mathlib.Omega.{arith}
 use lib.Dec.{ltb}
 use borrow.Author.Tests.{le-ltb}
 use borrow.Author.Needs.{needs}
-use Rattle.id_allocator.specs.Marks.{isFree, countIf}
+use Rattle.marks.specs.Marks.{isFree, countIf}
 use Rattle.id_allocator.specs.Counted.{hinted}
 use Rattle.offer.specs.Room.{freeIn}
 use Rattle.offer.proofs.room.slab_lacks.Statement.{statement}

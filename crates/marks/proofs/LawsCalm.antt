@@ -1,0 +1,49 @@
+-- What a search and a release pass over: marks of which none is one that they look for. Assumes nothing.
+use mathlib.Core.Path.{_≡_, refl, sym, ap, _∙_}
+use mathlib.Core.Bool.{Bool, true, false, cond}
+use mathlib.Core.List.{List, [], _∷_, map}
+use Prim.Native.Nat.{ℕ, zero, suc, _≤_}
+use native.Mathlib.Omega.{arith}
+use lib.Dec.{eqb}
+use lib.ListN.{length}
+use borrow.Author.Tests.{eqb-true, ne-eqb}
+use Rattle.marks.specs.Marks.{isPending, firstFree, countIf, letGo}
+use Rattle.marks.specs.Turned.{isMark, released}
+use Rattle.marks.proofs.LawsCount.{countIf-le}
+
+-- ---- none is free
+pub none-free : (ms : List ℕ) → countIf (isMark 0) ms ≡ 0 → firstFree ms ≡ length ms
+none-free [] e = refl
+none-free (zero ∷ ms) e = absurd (omega arith)
+none-free (suc m ∷ ms) e = ap suc (none-free ms (rw (ne-eqb (suc m) 0 (λ h. omega arith)) at e))
+
+-- ---- none is pending, where a 0 stays
+stays : (m : ℕ) (b : Bool) → eqb m 0 ≡ b → cond b 0 m ≡ m
+stays m true e = sym (eqb-true m 0 e)
+stays m false e = refl
+
+let-go : (m : ℕ) → isPending m ≡ false → letGo m ≡ m
+let-go m e = rw e refl
+
+kept : (m : ℕ) → isPending m ≡ false → m ≡ released 0 m
+kept m e = sym (ap (λ (x : ℕ). letGo x) (stays m (eqb m 0) refl) ∙ let-go m e)
+
+calm-next : (m n : ℕ) (ms : List ℕ) (b : Bool) → isPending m ≡ b → cond b (suc n) n ≡ 0 → (n ≡ 0 → ms ≡ map (released 0) ms) → m ∷ ms ≡ map (released 0) (m ∷ ms)
+calm-next m n ms true p e f = absurd (omega arith)
+calm-next m n ms false p e f = λ k. kept m p k ∷ f e k
+
+pub calm : (ms : List ℕ) → countIf (isMark 2) ms ≡ 0 → ms ≡ map (released 0) ms
+calm [] e = refl
+calm (m ∷ ms) e = calm-next m (countIf (isMark 2) ms) ms (isPending m) refl e (calm ms)
+
+-- ---- all are held
+abbrev pub Held : ℕ → List ℕ → Type 0
+Held z ms = (countIf isPending ms ≡ 0) × (ms ≡ map (released z) ms)
+
+held-next : (z m n : ℕ) (ms : List ℕ) (b : Bool) → isMark 1 m ≡ b → cond b (suc n) n ≡ suc (length ms) → n ≤ length ms → (n ≡ length ms → Held z ms) → Held z (m ∷ ms)
+held-next z m n ms true p e l f = let r = f (omega arith) in rw (eqb-true m 1 p) (r .0, ap (λ (t : List ℕ). 1 ∷ t) (r .1))
+held-next z m n ms false p e l f = absurd (omega arith)
+
+pub all-held : (z : ℕ) (ms : List ℕ) → countIf (isMark 1) ms ≡ length ms → Held z ms
+all-held z [] e = (refl, refl)
+all-held z (m ∷ ms) e = held-next z m (countIf (isMark 1) ms) ms (isMark 1 m) refl e (countIf-le (isMark 1) ms) (all-held z ms)

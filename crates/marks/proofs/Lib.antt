@@ -1,0 +1,4 @@
+pub mod LawsFree
+pub mod LawsCount
+pub mod LawsMapped
+pub mod LawsCalm

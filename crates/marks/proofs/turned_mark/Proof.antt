@@ -1,0 +1,12 @@
+use borrow.Author.Tests.{eq-eqb, ne-eqb}
+use Rattle.marks.proofs.turned_mark.Statement.{statement}
+use Rattle.marks.proofs.turned_mark.Tie as tie
+
+returns : tie.Need-returns
+returns c = simp (eq-eqb _ _ (c .if1 .taken))
+
+returns-2 : tie.Need-returns-2
+returns-2 c = simp (ne-eqb _ _ (c .if1 .left))
+
+pub turned-mark-spec : {M : Type 1} → statement M
+turned-mark-spec = tie.close (tie.spec returns returns-2)
