@@ -137,3 +137,11 @@ word-two s i l = omega (arith, word-cons s i (omega arith), word-cons s (i + 1) 
 
 pub left-at : (s : List ℕ) (z i j : ℕ) → i ≡ j → left s i z ≡ left s j z
 left-at s z i j e = ap (λ (k : ℕ). left s k z) e
+
+-- a word is read, where m bytes come after it
+pub onward : (s : List ℕ) (m k w z r c : ℕ) → Turn k w z r → m + 8 ≤ length s → k ≤ 8 * m → w < 2 ^ 64
+    → word (drop (length s - (m + 8)) s) ≡ word (drop (length s - (m + 8) + 8) s) * 2 ^ 64 + w
+    → left s (length s - (m + 8)) z ≡ c → left s (length s - m) r ≡ c
+onward s m k w z r c t l n b h e =
+    let i = length s - (m + 8) in
+    left-at s r (length s - m) (i + 8) (omega arith) ∙ sym (taken s i k w z r t (omega arith) (omega arith) b h) ∙ e

@@ -227,7 +227,7 @@ fn few(register: u32, s: &[u8]) -> u32
 
 // The first h bytes as a word of their own: zeros before them, and before the register, change nothing.
 fn head(register: u32, s: &[u8], h: usize) -> Pend
-    requires { ⌜ (0 < h) × (h < 8) × (h + 8 ≤ length (now s)) ⌝ }
+    requires { ⌜ (0 < h) × (h < 8) × (h + 16 ≤ length (now s)) ⌝ }
     ensures { λ r. ⌜ left (now (s .entry)) h (held r) ≡ crcOver register (now (s .entry)) ⌝ }
 {
     let c = register as u64;
@@ -239,12 +239,12 @@ fn head(register: u32, s: &[u8], h: usize) -> Pend
         d: 0,
         e: 0,
     };
-    near(z, load(s, 0) << zeros)
+    mid(z, load(s, 0) << zeros)
 }
 
 // What is pending where whole words follow.
 fn start(register: u32, s: &[u8], h: usize) -> Pend
-    requires { ⌜ (h < 8) × (h + 8 ≤ length (now s)) ⌝ }
+    requires { ⌜ (h < 8) × (h + 16 ≤ length (now s)) ⌝ }
     ensures { λ r. ⌜ left (now (s .entry)) h (held r) ≡ crcOver register (now (s .entry)) ⌝ }
 {
     if h == 0 {
@@ -266,28 +266,6 @@ fn far_at(z: Pend, s: &[u8], i: usize) -> Pend
     far(z, load(s, i))
 }
 
-// Where two words come after, or three, or four.
-fn close_at(z: Pend, s: &[u8], i: usize) -> Pend
-    requires { ⌜ i + 24 ≤ length (now s) ⌝ }
-    ensures { λ r. ⌜ left (now (s .entry)) i (held z) ≡ left (now (s .entry)) (i + 8) (held r) ⌝ }
-{
-    let rest = s.len() - i;
-    if 40 <= rest {
-        return with_four(z, load(s, i));
-    }
-    if 32 <= rest {
-        return with_three(z, load(s, i));
-    }
-    mid(z, load(s, i))
-}
-
-fn near_at(z: Pend, s: &[u8], i: usize) -> Pend
-    requires { ⌜ i + 16 ≤ length (now s) ⌝ }
-    ensures { λ r. ⌜ left (now (s .entry)) i (held z) ≡ left (now (s .entry)) (i + 8) (held r) ⌝ }
-{
-    near(z, load(s, i))
-}
-
 struct At {
     z: Pend,
     i: usize,
@@ -301,6 +279,19 @@ struct Past {
     r: u64,
     s: u64,
     t: u64,
+}
+
+// No word yet.
+fn none() -> Past
+    ensures { λ r. ⌜ past r ≡ 0 ⌝ }
+{
+    Past {
+        p: 0,
+        q: 0,
+        r: 0,
+        s: 0,
+        t: 0,
+    }
 }
 
 fn pull(a: u64, b: u64, c: u64, d: u64) -> u64
@@ -351,15 +342,8 @@ fn settle(h: Past) -> Pend
 // The words from `at` on, five a turn.
 fn fives(from: Pend, s: &[u8], at: usize) -> At
     requires { ⌜ (at + 80 ≤ length (now s)) × ((length (now s) - at) % 8 ≡ 0) ⌝ }
-    ensures { λ r. ⌜ (r .i + 8 ≤ length (now (s .entry))) × ((length (now (s .entry)) - r .i) % 8 ≡ 0) × (left (now (s .entry)) at (held from) ≡ left (now (s .entry)) (r .i) (held (r .z))) ⌝ }
+    ensures { λ r. ⌜ (r .i + 40 ≤ length (now (s .entry))) × ((length (now (s .entry)) - r .i) % 8 ≡ 0) × (left (now (s .entry)) at (held from) ≡ left (now (s .entry)) (r .i) (held (r .z))) ⌝ }
 {
-    let none = Past {
-        p: 0,
-        q: 0,
-        r: 0,
-        s: 0,
-        t: 0,
-    };
     let nothing = Pend {
         a: 0,
         b: 0,
@@ -367,7 +351,7 @@ fn fives(from: Pend, s: &[u8], at: usize) -> At
         d: 0,
         e: 0,
     };
-    let mut h = five(none, from, s, at);
+    let mut h = five(none(), from, s, at);
     let mut i = at + 40;
     while 80 <= s.len() - i {
         h = five(h, nothing, s, i);
@@ -380,8 +364,8 @@ fn fives(from: Pend, s: &[u8], at: usize) -> At
 const MANY: usize = 120;
 
 fn many(from: Pend, s: &[u8], at: usize) -> At
-    requires { ⌜ (at + 8 ≤ length (now s)) × ((length (now s) - at) % 8 ≡ 0) ⌝ }
-    ensures { λ r. ⌜ (r .i + 8 ≤ length (now (s .entry))) × ((length (now (s .entry)) - r .i) % 8 ≡ 0) × (left (now (s .entry)) at (held from) ≡ left (now (s .entry)) (r .i) (held (r .z))) ⌝ }
+    requires { ⌜ (at + 40 ≤ length (now s)) × ((length (now s) - at) % 8 ≡ 0) ⌝ }
+    ensures { λ r. ⌜ (r .i + 40 ≤ length (now (s .entry))) × ((length (now (s .entry)) - r .i) % 8 ≡ 0) × (left (now (s .entry)) at (held from) ≡ left (now (s .entry)) (r .i) (held (r .z))) ⌝ }
 {
     if s.len() - at < MANY {
         return At { z: from, i: at };
@@ -390,9 +374,9 @@ fn many(from: Pend, s: &[u8], at: usize) -> At
 }
 
 // The words from `at` on, up to the last five.
-fn far_to(from: Pend, s: &[u8], at: usize) -> At
-    requires { ⌜ (at + 8 ≤ length (now s)) × ((length (now s) - at) % 8 ≡ 0) ⌝ }
-    ensures { λ r. ⌜ (r .i + 8 ≤ length (now (s .entry))) × ((length (now (s .entry)) - r .i) % 8 ≡ 0) × (left (now (s .entry)) at (held from) ≡ left (now (s .entry)) (r .i) (held (r .z))) ⌝ }
+fn far_to(from: Pend, s: &[u8], at: usize) -> Pend
+    requires { ⌜ (at + 40 ≤ length (now s)) × ((length (now s) - at) % 8 ≡ 0) ⌝ }
+    ensures { λ r. ⌜ left (now (s .entry)) at (held from) ≡ left (now (s .entry)) (length (now (s .entry)) - 40) (held r) ⌝ }
 {
     let mut z = from;
     let mut i = at;
@@ -400,35 +384,68 @@ fn far_to(from: Pend, s: &[u8], at: usize) -> At
         z = far_at(z, s, i);
         i += 8;
     }
-    At { z, i }
-}
-
-// The words from `at` on, up to the last two.
-fn close_to(from: Pend, s: &[u8], at: usize) -> At
-    requires { ⌜ (at + 8 ≤ length (now s)) × ((length (now s) - at) % 8 ≡ 0) ⌝ }
-    ensures { λ r. ⌜ (r .i + 8 ≤ length (now (s .entry))) × ((length (now (s .entry)) - r .i) % 8 ≡ 0) × (left (now (s .entry)) at (held from) ≡ left (now (s .entry)) (r .i) (held (r .z))) ⌝ }
-{
-    let mut z = from;
-    let mut i = at;
-    while 24 <= s.len() - i {
-        z = close_at(z, s, i);
-        i += 8;
-    }
-    At { z, i }
-}
-
-// The words from `at` up to e.
-fn near_to(from: Pend, s: &[u8], at: usize, e: usize) -> Pend
-    requires { ⌜ (at ≤ e) × ((e - at) % 8 ≡ 0) × (e + 8 ≤ length (now s)) ⌝ }
-    ensures { λ r. ⌜ left (now (s .entry)) at (held from) ≡ left (now (s .entry)) e (held r) ⌝ }
-{
-    let mut z = from;
-    let mut i = at;
-    while i < e {
-        z = near_at(z, s, i);
-        i += 8;
-    }
     z
+}
+
+// The first three words of eight, with no loop: over so few words its tests cost as much as the turns.
+fn three(register: u32, s: &[u8]) -> Pend
+    requires { ⌜ length (now s) ≡ 64 ⌝ }
+    ensures { λ r. ⌜ left (now (s .entry)) (length (now (s .entry)) - 40) (held r) ≡ crcOver register (now (s .entry)) ⌝ }
+{
+    let two = turn(turn(none(), register as u64, s, 0), 0, s, 8);
+    settle(turn(two, 0, s, 16))
+}
+
+// What is pending where five words are left, and then four, three, two and one, from z, which is pending after the odd bytes. Each is called
+// once, so that LLVM makes one piece of all, which tests the length first and then runs to the end in registers.
+fn to_five(register: u32, z: Pend, s: &[u8]) -> Pend
+    requires { ⌜ (40 ≤ length (now s)) × (left (now s) (length (now s) % 8) (held z) ≡ crcOver register (now s)) ⌝ }
+    ensures { λ r. ⌜ left (now (s .entry)) (length (now (s .entry)) - 40) (held r) ≡ crcOver register (now (s .entry)) ⌝ }
+{
+    if s.len() == 64 {
+        return three(register, s);
+    }
+    let m = many(z, s, s.len() % 8);
+    let y = m.z;
+    let i = m.i;
+    far_to(y, s, i)
+}
+
+fn to_four(register: u32, z: Pend, s: &[u8]) -> Pend
+    requires { ⌜ (32 ≤ length (now s)) × (left (now s) (length (now s) % 8) (held z) ≡ crcOver register (now s)) ⌝ }
+    ensures { λ r. ⌜ left (now (s .entry)) (length (now (s .entry)) - 32) (held r) ≡ crcOver register (now (s .entry)) ⌝ }
+{
+    if s.len() < 40 {
+        return z;
+    }
+    with_four(to_five(register, z, s), load(s, s.len() - 40))
+}
+
+fn to_three(register: u32, z: Pend, s: &[u8]) -> Pend
+    requires { ⌜ (24 ≤ length (now s)) × (left (now s) (length (now s) % 8) (held z) ≡ crcOver register (now s)) ⌝ }
+    ensures { λ r. ⌜ left (now (s .entry)) (length (now (s .entry)) - 24) (held r) ≡ crcOver register (now (s .entry)) ⌝ }
+{
+    if s.len() < 32 {
+        return z;
+    }
+    with_three(to_four(register, z, s), load(s, s.len() - 32))
+}
+
+fn to_two(register: u32, z: Pend, s: &[u8]) -> Pend
+    requires { ⌜ (16 ≤ length (now s)) × (left (now s) (length (now s) % 8) (held z) ≡ crcOver register (now s)) ⌝ }
+    ensures { λ r. ⌜ left (now (s .entry)) (length (now (s .entry)) - 16) (held r) ≡ crcOver register (now (s .entry)) ⌝ }
+{
+    if s.len() < 24 {
+        return z;
+    }
+    mid(to_three(register, z, s), load(s, s.len() - 24))
+}
+
+fn to_one(register: u32, z: Pend, s: &[u8]) -> Pend
+    requires { ⌜ (16 ≤ length (now s)) × (left (now s) (length (now s) % 8) (held z) ≡ crcOver register (now s)) ⌝ }
+    ensures { λ r. ⌜ left (now (s .entry)) (length (now (s .entry)) - 8) (held r) ≡ crcOver register (now (s .entry)) ⌝ }
+{
+    near(to_two(register, z, s), load(s, s.len() - 16))
 }
 
 // The last word.
@@ -448,16 +465,6 @@ pub(crate) fn over(register: u32, bytes: &[u8]) -> u32
     if n < FEW {
         return few(register, bytes);
     }
-    let h = n % 8;
-    let m = many(start(register, bytes, h), bytes, h);
-    let z = m.z;
-    let j = m.i;
-    let f = far_to(z, bytes, j);
-    let y = f.z;
-    let k = f.i;
-    let g = close_to(y, bytes, k);
-    let w = g.z;
-    let i = g.i;
-    let e = n - 8;
-    end(near_to(w, bytes, i, e), bytes, e)
+    let one = to_one(register, start(register, bytes, n % 8), bytes);
+    end(one, bytes, n - 8)
 }

@@ -6,11 +6,12 @@ use Prim.Native.Nat.{_+_, _-_, _%_, _≤_}
 use native.Mathlib.Omega.{arith}
 use lib.ListN.{length}
 use Rattle.crc32.specs.Fold.{held, left}
+use Rattle.crc32.proofs.Left.{left-at}
 use Rattle.crc32.proofs.words.far_to.Statement.{statement}
 use Rattle.crc32.proofs.words.far_to.Tie as tie
 
 abbrev Inv-loop : tie.InvT-loop
-Inv-loop s at z₀ i₀ z i = (i + 8 ≤ length s) × (((length s - i) % 8 ≡ 0) × (left s i₀ (held z₀) ≡ left s i (held z)))
+Inv-loop s at z₀ i₀ z i = (i + 40 ≤ length s) × (((length s - i) % 8 ≡ 0) × (left s i₀ (held z₀) ≡ left s i (held z)))
 
 abbrev μ-loop : tie.MeasureT-loop
 μ-loop s at z₀ i₀ z i = length s - i
@@ -34,7 +35,9 @@ loop-again : tie.Need-loop-again Inv-loop μ-loop
 loop-again c = (omega arith, (omega arith, c .before .before .loop .inv .1 .1 ∙ c .far-at .ensures))
 
 returns : tie.Need-returns Inv-loop μ-loop
-returns c = (c .before .loop .inv .0, c .before .loop .inv .1 .0, c .before .loop .inv .1 .1)
+returns c =
+    let s = c .before .before .before .args .s .now in
+    c .before .loop .inv .1 .1 ∙ left-at s (held (c .before .loop .z)) (c .before .loop .i) (length s - 40) (omega arith)
 
 pub far-to-spec : {M : Type 1} → statement M
 far-to-spec =

@@ -7,15 +7,17 @@ use native.Mathlib.Omega.{arith}
 use lib.Bits.{bitXor, xor-zero-r}
 use lib.ListN.{length}
 use Rattle.crc32.specs.Fold.{held, past, num, over, left}
-use Rattle.crc32.proofs.Past.{past-none}
 use Rattle.crc32.proofs.words.fives.Statement.{statement}
 use Rattle.crc32.proofs.words.fives.Tie as tie
 
 abbrev Inv-loop : tie.InvT-loop
-Inv-loop s at nothing h₀ i₀ h i = (i + 8 ≤ length s) × (((length s - i) % 8 ≡ 0) × (left s i₀ (past h₀) ≡ left s i (past h)))
+Inv-loop s at nothing h₀ i₀ h i = (i + 40 ≤ length s) × (((length s - i) % 8 ≡ 0) × (left s i₀ (past h₀) ≡ left s i (past h)))
 
 abbrev μ-loop : tie.MeasureT-loop
 μ-loop s at nothing h₀ i₀ h i = length s - i
+
+none-requires : tie.Need-none-requires Inv-loop μ-loop
+none-requires c κs = search needs
 
 five-requires : tie.Need-five-requires Inv-loop μ-loop
 five-requires c κs = search needs
@@ -41,7 +43,7 @@ loop-less c = search needs
 loop-again : tie.Need-loop-again Inv-loop μ-loop
 unfolding num over
 loop-again c =
-    let s = c .before .before .before .before .before .args .s .now in
+    let s = c .before .before .before .before .before .before .args .s .now in
     let h = past (c .before .before .loop .h) in
     let i = c .before .before .loop .i in
     (omega arith, (omega arith, c .before .before .loop .inv .1 .1 ∙ ap (left s i) (sym (xor-zero-r h)) ∙ c .five2 .ensures))
@@ -51,13 +53,13 @@ settle-requires c κs = search needs
 
 returns : tie.Need-returns Inv-loop μ-loop
 returns c =
-    let s = c .before .before .before .before .before .args .s .now in
-    let at = c .before .before .before .before .before .args .at in
-    let z = held (c .before .before .before .before .before .args .from) in
+    let s = c .before .before .before .before .before .before .args .s .now in
+    let at = c .before .before .before .before .before .before .args .at in
+    let z = held (c .before .before .before .before .before .before .args .from) in
     let i = c .before .before .loop .i in (
       c .before .before .loop .inv .0,
       c .before .before .loop .inv .1 .0,
-      ap (λ (x : ℕ). left s at (bitXor x z)) (sym past-none) ∙ c .before .before .before .five .ensures ∙ c .before .before .loop .inv .1 .1 ∙ ap (left s i) (sym (c .settle .ensures)),
+      ap (λ (x : ℕ). left s at (bitXor x z)) (sym (c .before .before .before .before .none .ensures)) ∙ c .before .before .before .five .ensures ∙ c .before .before .loop .inv .1 .1 ∙ ap (left s i) (sym (c .settle .ensures)),
     )
 
 pub fives-spec : {M : Type 1} → statement M
@@ -66,6 +68,7 @@ fives-spec =
     (tie.spec
     Inv-loop
     μ-loop
+    none-requires
     five-requires
     add-i
     loop-holds

@@ -1,4 +1,4 @@
--- `crc32::words::head` meets its contract: the law of the first bytes, by a near turn.
+-- `crc32::words::head` meets its contract: the law of the first bytes, by the turn for two words after.
 -- Assumes nothing.
 use borrow.Author.Needs.{needs}
 use Prim.Native.Nat.{_-_, _*_}
@@ -17,31 +17,31 @@ sub-zeros c = search needs
 shl-t9 : tie.Need-shl-t9
 shl-t9 c = search needs
 
-mul-near : tie.Need-mul-near
-mul-near c = search needs
+mul-mid : tie.Need-mul-mid
+mul-mid c = search needs
 
-shr-near : tie.Need-shr-near
-shr-near c = search needs
+shr-mid : tie.Need-shr-mid
+shr-mid c = search needs
 
 load-requires : tie.Need-load-requires
 load-requires c κs = search needs
 
-shl-near : tie.Need-shl-near
-shl-near c = search needs
+shl-mid : tie.Need-shl-mid
+shl-mid c = search needs
 
-near-requires : tie.Need-near-requires
-near-requires c κs = search needs
+mid-requires : tie.Need-mid-requires
+mid-requires c κs = search needs
 
 returns : tie.Need-returns
 returns c =
     let s = c .before .before .before .args .s .now in
     let h = c .before .before .before .args .h in
-    headed s (λ k. c .before .before .shared-slice-known .given k .fits) (c .before .before .before .args .register) h (64 - 8 * h) 64 (c .before .load .result) (held (c .near .result))
+    headed s (λ k. c .before .before .shared-slice-known .given k .fits) (c .before .before .before .args .register) h (64 - 8 * h) 128 (c .before .load .result) (held (c .mid .result))
     (omega arith)
     (omega arith)
     (omega arith)
     (c .before .load .ensures)
-    (c .near .ensures)
+    (c .mid .ensures)
 
 pub head-spec : {M : Type 1} → statement M
 head-spec =
@@ -50,9 +50,9 @@ head-spec =
     mul-zeros
     sub-zeros
     shl-t9
-    mul-near
-    shr-near
+    mul-mid
+    shr-mid
     load-requires
-    shl-near
-    near-requires
+    shl-mid
+    mid-requires
     returns)
