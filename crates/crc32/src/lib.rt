@@ -9,16 +9,12 @@
 //
 // Fast, because a sparse multiple of the polynomial says how a bit may be taken away at one place and put back at a few later ones. So bytes
 // are read whole words at a time, and put off until few are left; only these are looked up, four at once (crc_steps).
-//   words  up to LONG bytes: eight a turn, in registers; the odd bytes come first, as a word of their own.
-//   long   from there on: a multiple whose places are whole bytes, so that LLVM moves sixteen at once.
-// What the standard says, a bit at a time, is in specs/Crc32.antt and in crc_steps, and every function here is proved equal to it.
+//   crc_words   up to LONG bytes: eight a turn, in registers; the odd bytes come first, as a word of their own.
+//   crc_blocks  from there on: a multiple whose places are whole bytes, so that LLVM moves sixteen at once.
+// What the standard says, a bit at a time, is in crc_steps, and every function is proved equal to it.
 ghost use mathlib.Core.Path.{_≡_};
 ghost use lib.Bits.{bitXor};
-ghost use Rattle.crc32.specs.Crc32.{crcOver, crc32};
-
-mod load;
-mod long;
-mod words;
+ghost use Rattle.crc_steps.specs.Crc32.{crcOver, crc32};
 
 // The register before the first byte.
 pub const START: u32 = 0xFFFF_FFFF;
@@ -31,9 +27,9 @@ pub fn update(register: u32, bytes: &[u8]) -> u32
     ensures { λ r. ⌜ r ≡ crcOver register (now (bytes .entry)) ⌝ }
 {
     if bytes.len() < LONG {
-        return words::over(register, bytes);
+        return crc_words::over(register, bytes);
     }
-    long::over(register, bytes)
+    crc_blocks::over(register, bytes)
 }
 
 // The check value of what went through `register`.
@@ -49,7 +45,7 @@ pub fn hash(bytes: &[u8]) -> u32
     ensures { λ r. ⌜ r ≡ crc32 (now (bytes .entry)) ⌝ }
 {
     if bytes.len() < LONG {
-        return finish(words::over(START, bytes));
+        return finish(crc_words::over(START, bytes));
     }
-    finish(long::over(START, bytes))
+    finish(crc_blocks::over(START, bytes))
 }

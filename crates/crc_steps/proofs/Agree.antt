@@ -10,7 +10,7 @@ use lib.Dec.{T, eqb, eqb→eq, eqb-refl}
 use lib.Arith.{lt-one}
 use lib.Pow.{pow-pos, split, shr-lt}
 use lib.Bits.{bitXor, xor-shifted, xor-block, xor-shr, xor-mod}
-use Rattle.crc_steps.specs.Steps.{step, steps}
+use Rattle.crc_steps.specs.Crc32.{step, steps}
 use Rattle.crc_steps.proofs.Xor.{xor-swap}
 use Rattle.crc_steps.proofs.Linear.{step-xor, steps-xor, step-shift}
 

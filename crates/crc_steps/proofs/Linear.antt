@@ -5,7 +5,7 @@ use Prim.Native.Nat.{ℕ, zero, suc, _+_, _*_, _/_, _%_, _^_, _<_}
 use native.Mathlib.Nat.{mod-lt, zero-lt-suc, mul-mod-left, mul-div-cancel, mul-assoc, pow-suc, suc-add, zero-add}
 use native.Mathlib.Omega.{arith}
 use lib.Bits.{bitXor, differ, xor-comm, xor-shifted, xor-lt}
-use Rattle.crc_steps.specs.Steps.{takeIn, step, steps}
+use Rattle.crc_steps.specs.Crc32.{takeIn, step, steps}
 use Rattle.crc_steps.proofs.Xor.{xor-half, xor-odd, xor-assoc, xor-right-comm, xor-twice}
 
 two-pos : zero < 2

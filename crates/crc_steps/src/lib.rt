@@ -6,7 +6,7 @@
 // A key is 256 and the byte. Of eight bits alone LLVM makes a number with a sign, and has to mend it at each look.
 ghost use mathlib.Core.Path.{_≡_};
 ghost use Prim.Native.Nat.{_-_, _<_, _≤_};
-ghost use Rattle.crc_steps.specs.Steps.{steps};
+ghost use Rattle.crc_steps.specs.Crc32.{steps};
 
 fn first(key: u64) -> u64
     requires { ⌜ (256 ≤ key) × (key < 512) ⌝ }

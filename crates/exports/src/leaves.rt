@@ -1,6 +1,6 @@
 // Classes, checks, frames, cookies, addresses and cutoffs.
 ghost use mathlib.Core.Path.{_≡_};
-ghost use Rattle.crc32.specs.Crc32.{crcOver, crc32};
+ghost use Rattle.crc_steps.specs.Crc32.{crcOver, crc32};
 ghost use Rattle.sizes.specs.Sizes.{classOf};
 ghost use Rattle.sizes.specs.Outcomes.{classOutcome};
 ghost use Rattle.frame.specs.Frame.{writing, verdictOf};

@@ -12,7 +12,7 @@ use borrow.Author.Tests.{eq-eqb, eqb-true}
 use Rattle.little_endian.specs.LittleEndian.{word, bytesOf}
 use Rattle.little_endian.proofs.Laws.{Bytes, append-bytes, drop-bytes, length-bytesOf, bytesOf-bytes, word-bytesOf, bytesOf-word}
 use Rattle.sizes.specs.Sizes.{checkWidth}
-use Rattle.crc32.proofs.Laws.{crc32-lt}
+use Rattle.crc_steps.proofs.Laws.{crc32-lt}
 use Rattle.seal.specs.Seal.{checkOf, signed, bodyOf, tailOf, isSigned, resigned}
 
 -- ---- checkOf

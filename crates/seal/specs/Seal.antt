@@ -7,7 +7,7 @@ use lib.Dec.{eqb}
 use lib.ListN.{length, take, drop}
 use Rattle.little_endian.specs.LittleEndian.{word, bytesOf}
 use Rattle.sizes.specs.Sizes.{checkWidth}
-use Rattle.crc32.specs.Crc32.{crc32}
+use Rattle.crc_steps.specs.Crc32.{crc32}
 
 -- the check of a body: its CRC-32, XOR AF hex
 unfoldable pub checkOf : List ℕ → ℕ

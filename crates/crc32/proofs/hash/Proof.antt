@@ -4,7 +4,7 @@ use borrow.Author.Needs.{needs}
 use mathlib.Core.Path.{ap, _∙_}
 use Prim.Native.Nat.{ℕ}
 use lib.Bits.{bitXor}
-use Rattle.crc32.specs.Crc32.{crc32}
+use Rattle.crc_steps.specs.Crc32.{crc32}
 use Rattle.crc32.proofs.hash.Statement.{statement}
 use Rattle.crc32.proofs.hash.Tie as tie
 

@@ -5,7 +5,7 @@ use mathlib.Core.Path.{_≡_, ap, ap₂, _∙_}
 use Prim.Native.Nat.{ℕ, _+_, _-_, _/_, _%_, _^_, _<_}
 use native.Mathlib.Omega.{arith}
 use lib.Bits.{bitXor}
-use Rattle.crc_steps.specs.Steps.{step, steps}
+use Rattle.crc_steps.specs.Crc32.{step, steps}
 use Rattle.crc_steps.proofs.Agree.{id, down, low, both, after, lin-steps, same, agree}
 use Rattle.crc_steps.proofs.four_bytes.Statement.{statement}
 use Rattle.crc_steps.proofs.four_bytes.Tie as tie

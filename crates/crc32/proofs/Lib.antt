@@ -1,9 +1,0 @@
-pub mod Shifts
-pub mod Turns
-pub mod Left
-pub mod Laws
-pub mod Relation
-pub mod Bytes
-pub mod Pending
-pub mod Copy
-pub mod Past

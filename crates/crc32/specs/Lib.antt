@@ -1,3 +1,0 @@
-pub mod Crc32
-pub mod Fold
-pub mod Sparse

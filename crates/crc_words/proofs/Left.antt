@@ -1,0 +1,146 @@
+-- The register at the end of a slice, from what is pending at a place of it.
+-- Assumes nothing.
+use mathlib.Core.Path.{_≡_, sym, ap, ap₂, _∙_}
+use mathlib.Core.List.{List}
+use Prim.Native.Nat.{ℕ, zero, suc, _+_, _-_, _*_, _/_, _%_, _^_, _≤_, _<_}
+use native.Mathlib.Nat.{mod-lt, add-mul, mul-right-comm, mul-div-mul-right, mul-add-mod-self-right}
+use native.Mathlib.Numerals.{add-one}
+use native.Mathlib.Omega.{arith}
+use lib.Pow.{pow-pos, pow-add, split, high, shr-shr}
+use lib.Bits.{bitXor, xor-shifted, xor-comm}
+use lib.ListN.{length, getD, drop, length-drop, drop-of-length-le}
+use lib.Seq.{drop-cons, drop-drop, getD-drop}
+use Rattle.little_endian.specs.LittleEndian.{word}
+use Rattle.little_endian.proofs.Laws.{Bytes, drop-bytes, word-cons}
+use Rattle.crc_steps.specs.Crc32.{steps, crcOver}
+use Rattle.crc_words.specs.Fold.{up, over, num, Turn, left}
+use Rattle.crc_steps.proofs.Linear.{read-in, steps-add, steps-shift, steps-zero}
+use Rattle.crc_steps.proofs.Laws.{over-word}
+use Rattle.crc_words.proofs.Bytes.{word-head}
+use Rattle.crc_steps.proofs.Agree.{shifted-xor}
+
+-- a byte, and the register after it
+pub crc-first : (s : List ℕ) (i : ℕ) → i < length s → (c : ℕ) → crcOver c (drop i s) ≡ crcOver (steps 8 (bitXor c (getD s i 0))) (drop (i + 1) s)
+unfolding crcOver
+crc-first s i h c = rw (add-one, drop-cons s i 0)
+
+-- four bytes, and the register after them
+pub crc-four : (s : List ℕ) → Bytes s → (i q c : ℕ) → i + 4 ≤ length s → q < 2 ^ 32 → word (drop i s) ≡ word (drop (i + 4) s) * 2 ^ 32 + q
+    → crcOver c (drop i s) ≡ crcOver (steps 32 (bitXor c q)) (drop (i + 4) s)
+crc-four s h i q c l b e =
+    let m = 8 * length (drop (i + 4) s) in
+    let n : 8 * length (drop i s) ≡ 32 + m = simp length-drop (omega arith) in
+    over-word (drop i s) (drop-bytes i s h) c
+    ∙ ap₂ (λ (k x : ℕ). steps k (bitXor c x)) n e
+    ∙ sym (read-in 32 m c q (word (drop (i + 4) s)) b)
+    ∙ sym (over-word (drop (i + 4) s) (drop-bytes (i + 4) s h) (steps 32 (bitXor c q)))
+
+-- a word is read
+pub taken : (s : List ℕ) (i k w z r : ℕ) → Turn k w z r → i + 8 ≤ length s → k ≤ 8 * (length s - (i + 8)) → w < 2 ^ 64
+    → word (drop i s) ≡ word (drop (i + 8) s) * 2 ^ 64 + w → left s i z ≡ left s (i + 8) r
+unfolding left Turn over
+taken s i k w z r t l m b h =
+    let n = 8 * (length s - (i + 8)) - k in
+    let q = word (drop (i + 8) s) in
+    let e : 8 * (length s - i) ≡ 64 + (k + n) = omega arith in
+    let f : k + n ≡ 8 * (length s - (i + 8)) = omega arith in
+    ap₂ steps e (ap (λ (x : ℕ). bitXor x z) (h ∙ sym (xor-shifted q 64 w b))) ∙ t n q ∙ ap (λ (m : ℕ). steps m (bitXor q r)) f
+
+-- the register itself is pending
+pub begin : (s : List ℕ) → Bytes s → (i c : ℕ) → crcOver c (drop i s) ≡ left s i (num c 0 0 0 0)
+unfolding left num over
+begin s h i c =
+    over-word (drop i s) (λ j. rw getD-drop (h (i + j))) c
+    ∙ ap₂ steps (ap (λ (n : ℕ). 8 * n) (length-drop i s)) (xor-comm c (word (drop i s)))
+
+-- the first h bytes as a word of their own: zeros before them, and before the register, change nothing
+word-shr : (s : List ℕ) → Bytes s → (h : ℕ) → word s / 2 ^ (8 * h) ≡ word (drop h s)
+word-shr s b zero = omega arith
+word-shr s b (suc h) =
+    let e : 8 * suc h ≡ 8 + 8 * h = omega arith in
+    let f : 1 + h ≡ suc h = omega arith in
+    ap (λ (n : ℕ). word s / 2 ^ n) e
+    ∙ sym (shr-shr (word s) 8 (8 * h))
+    ∙ ap (λ (x : ℕ). x / 2 ^ (8 * h)) (ap (λ (x : ℕ). x / 2 ^ 8) (word-head s) ∙ high (word (drop 1 s)) 8 (b 0))
+    ∙ word-shr (drop 1 s) (drop-bytes 1 s b) h
+    ∙ ap word (drop-drop h 1 s)
+    ∙ ap (λ (n : ℕ). word (drop n s)) f
+
+up-split : (x p m : ℕ) → m + p ≡ 64 → x * 2 ^ p ≡ bitXor (x / 2 ^ m * 2 ^ 64) (up p x)
+up-split x p m e =
+    let t : 2 ^ 64 ≡ 2 ^ m * 2 ^ p = ap (λ (n : ℕ). 2 ^ n) (sym e) ∙ pow-add 2 m p in
+    sym (split (x * 2 ^ p) 64)
+    ∙ ap (λ (y : ℕ). y * 2 ^ 64 + up p x) (ap (λ (n : ℕ). x * 2 ^ p / n) t ∙ mul-div-mul-right x (2 ^ m) (pow-pos p))
+    ∙ sym (xor-shifted (x / 2 ^ m) 64 (up p x) (mod-lt (x * 2 ^ p) (pow-pos 64)))
+
+up-low : (p q w : ℕ) → up p (q * 2 ^ 64 + w) ≡ up p w
+up-low p q w =
+    ap (λ (x : ℕ). x % 2 ^ 64) (add-mul (q * 2 ^ 64) w (2 ^ p) ∙ ap (λ (x : ℕ). x + w * 2 ^ p) (mul-right-comm q (2 ^ 64) (2 ^ p)))
+    ∙ mul-add-mod-self-right (q * 2 ^ p) (2 ^ 64) (w * 2 ^ p)
+
+pub headed : (s : List ℕ) → Bytes s → (c h p k w r : ℕ) → 8 * h + p ≡ 64 → h ≤ length s → k ≤ 8 * (length s - h)
+    → word s ≡ word (drop 8 s) * 2 ^ 64 + w → Turn k (up p w) (num (up p c) (c / 2 ^ (8 * h)) 0 0 0) r → left s h r ≡ crcOver c s
+unfolding left Turn over num
+headed s b c h p k w r e l m f t =
+    let x = word s in
+    let n = 8 * length s in
+    let q = word (drop h s) in
+    let j = 8 * (length s - h) - k in
+    let a : 8 * (length s - h) ≡ k + j = omega arith in
+    let d : 64 + (k + j) ≡ p + n = omega arith in
+    let y : bitXor (over (up p w) q) (over (up p c) (c / 2 ^ (8 * h))) ≡ bitXor c x * 2 ^ p =
+    xor-comm (over (up p w) q) (over (up p c) (c / 2 ^ (8 * h)))
+    ∙ ap₂ bitXor
+    (sym (up-split c p (8 * h) e))
+    (ap₂ (λ (g v : ℕ). bitXor (g * 2 ^ 64) v) (sym (word-shr s b h)) (sym (ap (up p) f ∙ up-low p (word (drop 8 s)) w)) ∙ sym (up-split x p (8 * h) e))
+    ∙ sym (shifted-xor p c x) in
+    ap (λ (i : ℕ). steps i (bitXor q r)) a
+    ∙ sym (t j q)
+    ∙ ap₂ steps d y
+    ∙ steps-add p n (bitXor c x * 2 ^ p)
+    ∙ ap (steps n) (steps-shift p (bitXor c x))
+    ∙ sym (over-word s b c)
+
+-- and at the end
+done : (s : List ℕ) (i z : ℕ) → i ≡ length s → left s i z ≡ z
+unfolding left word
+done s i z e =
+    let l : length s ≤ i = omega arith in
+    let f : 8 * (length s - i) ≡ 0 = omega arith in
+    ap₂ (λ (n : ℕ) (x : List ℕ). steps n (bitXor (word x) z)) f (drop-of-length-le s l) ∙ steps-zero z
+
+pub all-done : (s : List ℕ) (i c : ℕ) → length s ≤ i → crcOver c (drop i s) ≡ c
+unfolding crcOver
+all-done s i c l = ap (crcOver c) (drop-of-length-le s l)
+
+small : (a b c d e : ℕ) → a < 2 ^ 64 → num a b c d e < 2 ^ 32 → num a b c d e ≡ a
+unfolding num over
+small a b c d e l h =
+    let t = over b (over c (over d e)) in
+    let f : num a b c d e ≡ t * 2 ^ 64 + a = xor-shifted t 64 a l in
+    omega arith
+
+-- after the last word what is pending is the register
+pub ended : (s : List ℕ) (i w z a b c d e : ℕ) → Turn 0 w z (num a b c d e) → i + 8 ≡ length s → w < 2 ^ 64 → word (drop i s) ≡ word (drop (i + 8) s) * 2 ^ 64 + w
+    → a < 2 ^ 64 → left s i z < 2 ^ 32 → left s i z ≡ a
+ended s i w z a b c d e t l m f h k =
+    let r : left s i z ≡ num a b c d e = taken s i 0 w z (num a b c d e) t (omega arith) (omega arith) m f ∙ done s (i + 8) (num a b c d e) l in
+    r ∙ small a b c d e h (omega arith)
+
+-- two bytes at a time, and the same place written otherwise
+pub word-at : (s : List ℕ) (i j : ℕ) → i ≡ j → word (drop i s) ≡ word (drop j s)
+word-at s i j e = ap (λ (k : ℕ). word (drop k s)) e
+
+pub word-two : (s : List ℕ) (i : ℕ) → i + 2 ≤ length s → word (drop i s) ≡ word (drop (i + 2) s) * 2 ^ 16 + (getD s i 0 + getD s (i + 1) 0 * 256)
+word-two s i l = omega (arith, word-cons s i (omega arith), word-cons s (i + 1) (omega arith), word-at s ((i + 1) + 1) (i + 2) (omega arith))
+
+pub left-at : (s : List ℕ) (z i j : ℕ) → i ≡ j → left s i z ≡ left s j z
+left-at s z i j e = ap (λ (k : ℕ). left s k z) e
+
+-- a word is read, where m bytes come after it
+pub onward : (s : List ℕ) (m k w z r c : ℕ) → Turn k w z r → m + 8 ≤ length s → k ≤ 8 * m → w < 2 ^ 64
+    → word (drop (length s - (m + 8)) s) ≡ word (drop (length s - (m + 8) + 8) s) * 2 ^ 64 + w
+    → left s (length s - (m + 8)) z ≡ c → left s (length s - m) r ≡ c
+onward s m k w z r c t l n b h e =
+    let i = length s - (m + 8) in
+    left-at s r (length s - m) (i + 8) (omega arith) ∙ sym (taken s i k w z r t (omega arith) (omega arith) b h) ∙ e
