@@ -4,7 +4,6 @@ use Prim.Native.Nat.{ℕ, _≤_, _-_}
 use native.Mathlib.Omega.{arith}
 use lib.Dec.{ltb}
 use lib.ListN.{length}
-use borrow.Author.Needs.{needs}
 use Rattle.id_allocator.specs.Marks.{isFree, countIf}
 use Rattle.id_allocator.specs.Counted.{hinted}
 use Rattle.id_allocator.proofs.LawsCount.{countIf-taken-free}
@@ -13,13 +12,13 @@ use Rattle.offer.proofs.room.lacks.Statement.{statement}
 use Rattle.offer.proofs.room.lacks.Tie as tie
 
 lacks-few-requires : tie.Need-lacks-few-requires
-lacks-few-requires c κs = search needs
+lacks-few-requires c κs = search
 
 returns : tie.Need-returns
-returns c = search needs
+returns c = search
 
 live-requires : tie.Need-live-requires
-live-requires c κs = search needs
+live-requires c κs = search
 
 sub-free : tie.Need-sub-free
 sub-free c =
