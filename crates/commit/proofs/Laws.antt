@@ -22,9 +22,10 @@ use Rattle.model.proofs.Verdicts.{test-ok, first-ok}
 use Rattle.tables.specs.Shapes.{allFit}
 use Rattle.tables.proofs.Lengths.{allFit-read}
 use Rattle.tables.proofs.LawsEntries.{badIn-read}
+use Rattle.kept.specs.declared.Rows.{Rows}
 use Rattle.kept.specs.declared.Rows.the-variants as R
 use Rattle.kept.specs.Kept.{rowsOf, rowsFrom, rowsAs, firstBad}
-use Rattle.kept.proofs.Laws.{badRow-read, commitRows-first}
+use Rattle.kept.proofs.Laws.{badRow-read, commitRows-first, rowsAs-count, rowsAs-refused}
 use Rattle.kept.proofs.Checked.{check-count, check-refused, check-kept, granted-answer, granted-after}
 use Rattle.commit.specs.Commit.{badUpdate, rowBad}
 
@@ -93,15 +94,29 @@ module _ (m : Memory) where
   pub commit-refused : fits m ≡ true → (r : Refusal) (p : ℕ) → rowsOf (m .batch) ≡ R.Refused r → R.Refused r ≡ rowsAs (refusal (read m) S.commit) p
   commit-refused e r p q = check-refused m S.commit bad (fits-says e .batch-long) (commit-rows e) r p q
 
+  -- the check's answer, read back: it counted, or it refused
+  pub check-counted : (r : Rows) (n : ℕ) → r ≡ rowsAs (refusal (read m) S.commit) (pred (getD (m .batch) 0 0)) → r ≡ R.Count n
+      → (refusal (read m) S.commit ≡ ok) × (n ≡ pred (getD (m .batch) 0 0))
+  check-counted r n e q = rowsAs-count _ _ n (sym e ∙ q)
+
+  pub check-told : (r : Rows) (f : Refusal) → r ≡ rowsAs (refusal (read m) S.commit) (pred (getD (m .batch) 0 0)) → r ≡ R.Refused f
+      → refusal (read m) S.commit ≡ refuse (f .number) (f .index)
+  check-told r f e q = rowsAs-refused _ _ f (sym e ∙ q)
+
   -- ---- where nothing is refused
   module _ (e : refusal (read m) S.commit ≡ ok) where
     pub commit-done : answer (read m) S.commit ≡ S.done
     unfolding grant
     commit-done = granted-answer m S.commit e
 
-    pub commit-after : (n : ℕ) → n ≡ pred (getD (m .batch) 0 0) → memoryAfter m S.commit ≡ withKept (commitAll m (rowsFrom (m .batch) n 0)) (set (m .batch) 0 0)
+    commit-after : (n : ℕ) → n ≡ pred (getD (m .batch) 0 0) → memoryAfter m S.commit ≡ withKept (commitAll m (rowsFrom (m .batch) n 0)) (set (m .batch) 0 0)
     unfolding memoryEffect
     commit-after n q =
         let f = commit-fits e in
         granted-after m S.commit e
         ∙ ap (λ (rs : List Row). withKept (commitAll m rs) (set (m .batch) 0 0)) (check-kept m S.commit bad (fits-says f .batch-long) (commit-rows f) e n q)
+
+    -- the rows are applied, and then the batch is closed
+    pub commit-leaves : (n : ℕ) (rows : Memory) (closed : List ℕ) → n ≡ pred (getD (m .batch) 0 0) → rows ≡ commitAll m (rowsFrom (m .batch) n 0)
+        → closed ≡ set (m .batch) 0 0 → withKept rows closed ≡ memoryAfter m S.commit
+    commit-leaves n rows closed q a b = (λ k. withKept (a k) (b k)) ∙ sym (commit-after n q)

@@ -45,16 +45,26 @@ commitRow-store : (m : Memory) (i l o : ℕ) → (l ≡ 0 → ⊥)
 commitRow-store m i zero o h = absurd (h refl)
 commitRow-store m i (suc l) o h = refl
 
-module _ (m : Memory) (i l o : ℕ) (locations marks words owners : List ℕ) where
+-- the row as it stands in the batch: id, new location, old location
+row-read : (m : Memory) (b : List ℕ) (j i l o : ℕ) → i ≡ getD b (1 + j) 0 → l ≡ getD b (257 + j) 0 → o ≡ getD (m .locations) (0 + i) 0
+    → commitRow m i l o ≡ commitRow m (getD b (1 + j) 0) (getD b (257 + j) 0) (getD (m .locations) (getD b (1 + j) 0) 0)
+row-read m b j i l o ei el eo =
+    let old = eo ∙ ap (λ x. getD (m .locations) x 0) (zero-add i ∙ ei) in
+    λ k. commitRow m (ei k) (el k) (old k)
+
+module _ (m : Memory) (b : List ℕ) (j i l o : ℕ) (ri : i ≡ getD b (1 + j) 0) (rl : l ≡ getD b (257 + j) 0) (ro : o ≡ getD (m .locations) (0 + i) 0) (locations marks words owners : List ℕ) where
+  abbrev Row : Memory
+  Row = commitRow m (getD b (1 + j) 0) (getD b (257 + j) 0) (getD (m .locations) (getD b (1 + j) 0) 0)
+
   pub row-store : (l ≡ 0 → ⊥) → locations ≡ set (m .locations) (0 + i) l → _≡_ {A = Slots} (record { marks = marks; words = words }) (pendSlot (m .slots) (slotsOf m) o)
       → owners ≡ write (m .slots) l i (m .owners)
-      → withOwned (withSlots m (record { marks = marks; words = words })) locations owners ≡ commitRow m i l o
+      → withOwned (withSlots m (record { marks = marks; words = words })) locations owners ≡ Row
   row-store nz el es eo =
       let at = el ∙ ap (λ x. set (m .locations) x l) (zero-add i) in
-      (λ k. withOwned (withSlots m (es k)) (at k) (eo k)) ∙ sym (commitRow-store m i l o nz)
+      (λ k. withOwned (withSlots m (es k)) (at k) (eo k)) ∙ sym (commitRow-store m i l o nz) ∙ row-read m b j i l o ri rl ro
 
-  pub row-free : (idMarks before : List ℕ) → l ≡ 0 → locations ≡ set (m .locations) (0 + i) l
-      → idMarks ≡ set (readyMarks (word (m .tallies) waitingWords 0) (m .idMarks)) i 2 → before ≡ readyWords (m .tallies) 0 (word (m .tallies) waitingWords 0)
+  pub row-free : (idMarks ready before : List ℕ) → l ≡ 0 → locations ≡ set (m .locations) (0 + i) l
+      → idMarks ≡ set ready i 2 → ready ≡ readyMarks (word (m .tallies) waitingWords 0) (m .idMarks) → before ≡ readyWords (m .tallies) 0 (word (m .tallies) waitingWords 0)
       → _≡_ {A = Slots} (record { marks = marks; words = words }) (pendSlot (m .slots) (record { marks = m .slotMarks; words = before }) o)
       → owners ≡ write (m .slots) o 0 (m .owners)
       → _≡_ {A = Memory} (record {
@@ -66,33 +76,31 @@ module _ (m : Memory) (i l o : ℕ) (locations marks words owners : List ℕ) wh
         owners = owners;
         batch = m .batch;
         tallies = words;
-      }) (commitRow m i l o)
-  row-free idMarks before z el ei ew es eo =
+      }) Row
+  row-free idMarks ready before z el ei er ew es eo =
       let at = el ∙ (λ k. set (m .locations) (zero-add i k) (z k)) in
       let both = es ∙ ap (λ g. pendSlot (m .slots) (record { marks = m .slotMarks; words = g }) o) ew in
       (λ k. record {
         ids = m .ids;
         slots = m .slots;
-        idMarks = ei k;
+        idMarks = (ei ∙ ap (λ x. set x i 2) er) k;
         locations = at k;
         slotMarks = both k .marks;
         owners = eo k;
         batch = m .batch;
         tallies = both k .words;
-      }) ∙ sym (ap (λ x. commitRow m i x o) z)
-
--- the row as it stands in the batch: id, new location, old location
-pub row-read : (m : Memory) (b : List ℕ) (j i l o : ℕ) → i ≡ getD b (1 + j) 0 → l ≡ getD b (257 + j) 0 → o ≡ getD (m .locations) (0 + i) 0
-    → commitRow m i l o ≡ commitRow m (getD b (1 + j) 0) (getD b (257 + j) 0) (getD (m .locations) (getD b (1 + j) 0) 0)
-row-read m b j i l o ei el eo =
-    let old = eo ∙ ap (λ x. getD (m .locations) x 0) (zero-add i ∙ ei) in
-    λ k. commitRow m (ei k) (el k) (old k)
+      }) ∙ sym (ap (λ x. commitRow m i x o) z) ∙ row-read m b j i l o ri rl ro
 
 -- ---- all rows
 module _ (m : Memory) (b : List ℕ) (n i : ℕ) where
-  pub commit-next : i < n → commitAll m (rowsFrom b (n - i) i)
+  commit-next : i < n → commitAll m (rowsFrom b (n - i) i)
       ≡ commitAll (commitRow m (getD b (1 + i) 0) (getD b (257 + i) 0) (getD (m .locations) (getD b (1 + i) 0) 0)) (rowsFrom b (n - (i + 1)) (i + 1))
   commit-next h = ap (commitAll m) (rowsFrom-next b n i h)
+
+  -- the rows left, after the row at i, make what the rows from i on make
+  pub commit-turn : (x whole : Memory) → i < n → x ≡ commitRow m (getD b (1 + i) 0) (getD b (257 + i) 0) (getD (m .locations) (getD b (1 + i) 0) 0)
+      → commitAll m (rowsFrom b (n - i) i) ≡ whole → commitAll x (rowsFrom b (n - (i + 1)) (i + 1)) ≡ whole
+  commit-turn x whole h e all = ap (λ (y : Memory). commitAll y (rowsFrom b (n - (i + 1)) (i + 1))) e ∙ sym (commit-next h) ∙ all
 
   pub commit-none : n ≤ i → commitAll m (rowsFrom b (n - i) i) ≡ m
   commit-none h = ap (commitAll m) (rowsFrom-none b n i h)

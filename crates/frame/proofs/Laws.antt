@@ -76,7 +76,7 @@ laid slot object k h =
 
 -- ---- reading
 -- the length field is the part between the room and the check
-pub storedLength-field : (slot : List ℕ) → isSlabSize (length slot) ≡ true → getAt (room (length slot)) (length slot - checkWidth) slot ≡ storedLength slot
+storedLength-field : (slot : List ℕ) → isSlabSize (length slot) ≡ true → getAt (room (length slot)) (length slot - checkWidth) slot ≡ storedLength slot
 unfolding getAt storedLength
 storedLength-field slot k =
     let s = length slot in
@@ -84,6 +84,10 @@ storedLength-field slot k =
     let w : s - checkWidth - room s ≡ fieldWidth s = omega arith in
     let short : length (take (fieldWidth s) (drop (room s) slot)) ≤ 8 = rw (length-take (fieldWidth s) (drop (room s) slot)) (omega (arith, fieldWidth-le s)) in
     rw (le-leb (room s) (s - checkWidth) (omega arith), le-leb (s - checkWidth) s (omega arith), w, take-all 8 (take (fieldWidth s) (drop (room s) slot)) short)
+
+-- the field, read from where the room ends
+pub stored-read : (slot : List ℕ) (start n : ℕ) → isSlabSize (length slot) ≡ true → start ≡ room (length slot) → n ≡ getAt start (length slot - checkWidth) slot → n ≡ storedLength slot
+stored-read slot start n k p e = e ∙ ap (λ x. getAt x (length slot - checkWidth) slot) p ∙ storedLength-field slot k
 
 -- a read accepts a slot exactly if its length is one of the 78, its check agrees and its stored length fits
 pub record Accepted (slot : List ℕ) (n : ℕ) : Type 0 where

@@ -59,6 +59,11 @@ unfolding rowsFrom
 rowsFrom-none b n i h = let e : n - i ≡ 0 = omega arith in rw e
 
 -- ---- the first bad row
+
+-- a row is as bad as the update that is read from it
+pub row-read : (bad : Row → Bool) (id l x y : ℕ) (r told : Bool) → id ≡ x → l ≡ y → r ≡ bad (id, l) → r ≡ told → bad (x, y) ≡ told
+row-read bad id l x y r told p q e h = (λ k. bad (sym p k, sym q k)) ∙ sym e ∙ h
+
 module _ (bad : Row → Bool) (b : List ℕ) (n i : ℕ) where
   pub firstBad-here : i < n → bad (getD b (1 + i) 0, getD b (257 + i) 0) ≡ true → firstBad bad i (rowsFrom b (n - i) i) ≡ refuse tablesDisagree i
   unfolding firstBad test _⨾_

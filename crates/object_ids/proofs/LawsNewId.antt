@@ -2,7 +2,7 @@
 use mathlib.Core.Path.{_≡_, refl, sym, ap, _∙_}
 use mathlib.Core.Bool.{Bool, true, false, not, cond, _&&_}
 use mathlib.Core.List.{List, [], _∷_}
-use Prim.Native.Nat.{ℕ, zero, suc, _<_}
+use Prim.Native.Nat.{ℕ, zero, suc, _+_, _<_}
 use native.Mathlib.Omega.{arith}
 use lib.Dec.{leb, ltb, eqb, eqb·suc-zero}
 use lib.ListN.{length, getD, set}
@@ -12,12 +12,12 @@ use Rattle.refusal.specs.Refusals.{wrongShape, batchOpen, noneFree}
 use Rattle.marks.specs.Marks.{isFree, smallestFree, hold}
 use Rattle.id_allocator.specs.Counted.{hinted, quiet, counted}
 use Rattle.id_allocator.proofs.LawsCounted.{counted-smallestFree, counted-length, settle-free}
-use Rattle.model.specs.Memory.{Memory, read, word, hintWords, waitingWords}
+use Rattle.model.specs.Memory.{Memory, read, wordAt, word, putWord, grantedWords, usedWords, hintWords, waitingWords}
 use Rattle.model.specs.MemoryAfter.{withIds, newIdWords, memoryEffect, memoryAfter}
 use Rattle.model.specs.Step.{refusal, grant, answer, answerBy}
 use Rattle.model.specs.Store.{newId, gave}
 use Rattle.model.specs.Ids.{nextId}
-use Rattle.model.specs.Tables.{idMarksFit, batchFits, talliesFit}
+use Rattle.model.specs.Tables.{bump, idMarksFit, batchFits, talliesFit}
 use Rattle.model.specs.Verdict.{_⨾_, test}
 use Rattle.model.proofs.Granted.{shape-ok, new-id-granted}
 use Rattle.model.proofs.Verdicts.{first-ok}
@@ -99,3 +99,12 @@ newId-granted m id e =
           withIds m (set (set (m .idMarks) (sym is i) 1) 0 (hold (getD (m .idMarks) 0 0)))
           (newIdWords (m .tallies) (sym is i) (sym (takes-read m some) i));
     }
+
+-- ---- an id is held: what is written, one after the other
+pub held-marks : (ms with after : List ℕ) (id first held : ℕ) → with ≡ set ms id 1 → held ≡ hold first → after ≡ set with 0 held → after ≡ set (set ms id 1) 0 (hold first)
+held-marks ms with after id first held p h e = e ∙ (λ k. set (p k) 0 (h k))
+
+pub held-words : (g counted used after : List ℕ) (id first hint more : ℕ) → hint ≡ word g hintWords 0 → more ≡ takes first hint → counted ≡ bump g (wordAt grantedWords 0) more
+    → used ≡ putWord counted usedWords 0 1 → after ≡ putWord used hintWords 0 (id + 1) → after ≡ newIdWords g id (takes first (word g hintWords 0))
+held-words g counted used after id first hint more h m c u e =
+    e ∙ ap (λ x. putWord x hintWords 0 (id + 1)) (u ∙ ap (λ x. putWord x usedWords 0 1) (c ∙ ap (bump g (wordAt grantedWords 0)) (m ∙ ap (takes first) h)))

@@ -9,7 +9,7 @@ use native.Mathlib.Omega.{arith}
 use lib.Dec.{ltb, eqb}
 use lib.ListN.{length, getD, take, drop, set}
 use lib.Seq.{sets, drop-length}
-use borrow.Author.Tests.{eqb-true, not-true, lt-ltb, le-ltb}
+use borrow.Author.Tests.{eqb-true, not-true, not-false, lt-ltb, le-ltb}
 use Rattle.refusal.specs.Refusals.{wrongShape, batchOpen, tooMany}
 use Rattle.refusal.specs.declared.Refusal.{Refusal}
 use Rattle.refusal.proofs.Tests.{and-true}
@@ -87,6 +87,13 @@ module _ (m : Memory) (is : List ℕ) (ss : List Bool) (ns out : List ℕ) where
   fits-read =
       sym (and-assoc (capacities (m .ids) (m .slots)) (tablesFit (read m)) (asLong is ss && asLong is ns && asLong is out))
       ∙ ap (λ b. b && (asLong is ss && asLong is ns && asLong is out)) (allFit-read m)
+
+  -- the test of the lengths, and whether it was passed
+  pub fits-told : (f : Bool) → f ≡ Fit → not f ≡ false → Fit ≡ true
+  fits-told f e h = sym e ∙ not-false f h
+
+  pub fits-failed : (f : Bool) → f ≡ Fit → not f ≡ true → Fit ≡ false
+  fits-failed f e h = sym e ∙ not-true f h
 
   pub refused-shape : Fit ≡ false → refusal (read m) (offer is ss ns out) ≡ refuse wrongShape 0
   unfolding refusal test _⨾_ read

@@ -60,10 +60,17 @@ pub waiting-marks : (hint w : ℕ) (ms : List ℕ) → (w ≡ 0 → ⊥) → map
 waiting-marks hint zero ms h = absurd (h refl)
 waiting-marks hint (suc w) ms h = refl
 
-pub waiting-words : (g : List ℕ) (a w : ℕ) (ms : List ℕ) → (w ≡ 0 → ⊥)
+waiting-words : (g : List ℕ) (a w : ℕ) (ms : List ℕ) → (w ≡ 0 → ⊥)
     → putWord (putWord (bump g (wordAt freedWords a) (countIf isPending (hinted (word g hintWords a) ms))) hintWords a 0) waitingWords a 0 ≡ releasedWords g a w ms
 waiting-words g a zero ms h = absurd (h refl)
 waiting-words g a (suc w) ms h = refl
+
+-- the pending ones are counted as freed, then hint and waiting are 0
+pub released-words : (g counted unhinted after : List ℕ) (a w hint freed : ℕ) (ms : List ℕ) → (w ≡ 0 → ⊥) → hint ≡ word g hintWords a → freed ≡ countIf isPending (hinted hint ms)
+    → counted ≡ bump g (wordAt freedWords a) freed → unhinted ≡ putWord counted hintWords a 0 → after ≡ putWord unhinted waitingWords a 0 → after ≡ releasedWords g a w ms
+released-words g counted unhinted after a w hint freed ms h p f c u e =
+    e ∙ ap (λ x. putWord x waitingWords a 0) (u ∙ ap (λ x. putWord x hintWords a 0) (c ∙ ap (bump g (wordAt freedWords a)) (f ∙ ap (λ x. countIf isPending (hinted x ms)) p)))
+    ∙ waiting-words g a w ms h
 
 -- ---- the slabs
 pub start-next : (cap k start : ℕ) → start ≡ k * cap → start + cap ≡ (k + 1) * cap

@@ -18,7 +18,7 @@ use Rattle.settings.specs.Settings.{cookieLength, cookieOf, settingsOf}
 use Rattle.settings.specs.declared.PersistentSettings.the-variants as P
 
 -- ---- writing: the version, the fanout, the padding, the check
-pub stored : (cookie : List ℕ) (fanout : ℕ) → length cookie ≡ cookieLength
+stored : (cookie : List ℕ) (fanout : ℕ) → length cookie ≡ cookieLength
     → resigned (putAt 10 60 0 (putAt 2 10 fanout (putAt 0 2 1 cookie))) ≡ cookieOf fanout
 unfolding cookieOf
 stored cookie fanout n =
@@ -90,3 +90,8 @@ settings-cookie fanout rest h =
     let short : ltb (length (cookieOf fanout ++ rest)) cookieLength ≡ false = le-ltb (length (cookieOf fanout ++ rest)) cookieLength (omega arith) in
     let intact : isSigned (take cookieLength (cookieOf fanout ++ rest)) ≡ true = ap isSigned first ∙ cookie-intact fanout in
     simp (short, intact, version, kept)
+
+-- the fields are written one after the other, then the check
+pub written : (cookie version fan padded after : List ℕ) (fanout : ℕ) → length cookie ≡ cookieLength → version ≡ putAt 0 2 1 cookie → fan ≡ putAt 2 10 fanout version
+    → padded ≡ putAt 10 60 0 fan → after ≡ resigned padded → after ≡ cookieOf fanout
+written cookie version fan padded after fanout n v f p e = e ∙ ap resigned (p ∙ ap (putAt 10 60 0) (f ∙ ap (putAt 2 10 fanout) v)) ∙ stored cookie fanout n

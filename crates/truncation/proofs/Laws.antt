@@ -10,8 +10,9 @@ use native.Mathlib.Omega.{arith}
 use lib.Dec.{leb, ltb, eqb}
 use lib.ListN.{length, getD, take, drop}
 use lib.Seq.{getD-drop}
-use borrow.Author.Tests.{eqb-true, leb-true, leb-false, not-false}
+use borrow.Author.Tests.{eqb-true, leb-true, leb-false, not-true, not-false, lt-ltb, le-ltb, le-leb, lt-leb}
 use Rattle.refusal.specs.Refusals.{wrongShape, outOfRange, batchOpen, ratioOutOfRange, nothingToCut}
+use Rattle.refusal.specs.declared.Refusal.{Refusal}
 use Rattle.refusal.proofs.Tests.{and-true, or-false}
 use Rattle.sizes.specs.Sizes.{sizeOf, slabSizes}
 use Rattle.sizes.proofs.Laws.{allBelow-at}
@@ -72,9 +73,14 @@ unfolding isCut
 isCut-tip k high t zero e = let z : _≡_ {A = ℕ} 0 1 = cc in omega arith
 isCut-tip k high t (suc top) e = omega arith
 
-pub raiseWord-top : (g : List ℕ) (k tip : ℕ) → (tip ≡ 0 → ⊥) → raiseWord g k tip ≡ putWord g highWords k (max (word g highWords k) (tip - 1))
+raiseWord-top : (g : List ℕ) (k tip : ℕ) → (tip ≡ 0 → ⊥) → raiseWord g k tip ≡ putWord g highWords k (max (word g highWords k) (tip - 1))
 raiseWord-top g k zero h = absurd (h refl)
 raiseWord-top g k (suc top) h = let e : top ≡ suc top - 1 = omega arith in ap (λ x. putWord g highWords k (max (word g highWords k) x)) e
+
+-- the word that is read, the larger of it and the top, and the words with that
+pub raised : (g after : List ℕ) (k tip high top : ℕ) → (tip ≡ 0 → ⊥) → high ≡ word g highWords k → top ≡ max high (tip - 1) → after ≡ putWord g highWords k top
+    → after ≡ raiseWord g k tip
+raised g after k tip high top h p q r = r ∙ ap (putWord g highWords k) (q ∙ ap (λ x. max x (tip - 1)) p) ∙ sym (raiseWord-top g k tip h)
 
 pub raiseWord-zero : (g : List ℕ) (k tip : ℕ) → tip ≡ 0 → raiseWord g k tip ≡ g
 raiseWord-zero g k tip e = ap (raiseWord g k) e
@@ -123,6 +129,49 @@ module _ (m : Memory) (k : ℕ) where
   slabRefusal-read t = λ i.
       test (not (slabFits-read m i)) wrongShape 0 ⨾ test (ltb 0 (getD (m .batch) 0 0)) batchOpen 0 ⨾
       test (leb slabs k || leb (m .slots) (high-read i)) outOfRange 0 ⨾ test (not (isTarget t)) ratioOutOfRange 0
+
+  -- ---- one test after another: what each answers, once those before it are passed
+  module _ (t : ℕ) where
+    pub ask-refused : (r : Refusal) (n : ℕ) → r ≡ record { number = n; index = 0 } → slabRefusal (read m) k t ≡ refuse n 0
+        → refused (r .number) (r .index) ≡ answerBy (slabRefusal (read m) k t) (gave (slabTip (read m) k))
+    ask-refused r n p e = (λ i. refused (p i .number) (p i .index)) ∙ sym (ap (λ v. answerBy v (gave (slabTip (read m) k))) e)
+
+    pub ask-tip : (tip : ℕ) → tip ≡ slabTip (read m) k → slabRefusal (read m) k t ≡ ok → gave tip ≡ answerBy (slabRefusal (read m) k t) (gave (slabTip (read m) k))
+    ask-tip tip p e = ap gave p ∙ sym (ap (λ v. answerBy v (gave (slabTip (read m) k))) e)
+
+    pub ask-shape : (f : Bool) → f ≡ fits → not f ≡ true → slabRefusal (read m) k t ≡ refuse wrongShape 0
+    unfolding test _⨾_
+    ask-shape f p h = slabRefusal-read t ∙ simp (sym p ∙ not-true f h)
+
+    module _ (fit : fits ≡ true) where
+      pub ask-open : (w : ℕ) → w ≡ getD (m .batch) 0 0 → (w ≡ 0 → ⊥) → slabRefusal (read m) k t ≡ refuse batchOpen 0
+      unfolding test _⨾_
+      ask-open w p h = let kept : 0 < getD (m .batch) 0 0 = omega (arith, p, h) in slabRefusal-read t ∙ simp (fit, lt-ltb _ _ kept)
+
+      module _ (w : ℕ) (p : w ≡ getD (m .batch) 0 0) (z : w ≡ 0) where
+        shut : ltb 0 (getD (m .batch) 0 0) ≡ false
+        shut = le-ltb 0 (getD (m .batch) 0 0) (omega (arith, p, z))
+
+        pub ask-slab : 78 ≤ k → slabRefusal (read m) k t ≡ refuse outOfRange 0
+        unfolding test _⨾_
+        ask-slab h = slabRefusal-read t ∙ simp (fit, shut, le-leb 78 k h)
+
+        module _ (below : k < 78) (high : ℕ) (q : high ≡ word (m .tallies) highWords k) where
+          pub ask-high : m .slots ≤ high → slabRefusal (read m) k t ≡ refuse outOfRange 0
+          unfolding test _⨾_
+          ask-high h = let past : m .slots ≤ word (m .tallies) highWords k = omega (arith, q, h) in slabRefusal-read t ∙ simp (fit, shut, lt-leb 78 k below, le-leb _ _ past)
+
+          module _ (h : high < m .slots) (g : Bool) (r : g ≡ isTarget t) where
+            low : leb (m .slots) (word (m .tallies) highWords k) ≡ false
+            low = lt-leb (m .slots) (word (m .tallies) highWords k) (omega (arith, q, h))
+
+            pub ask-target : not g ≡ true → slabRefusal (read m) k t ≡ refuse ratioOutOfRange 0
+            unfolding test _⨾_
+            ask-target e = slabRefusal-read t ∙ simp (fit, shut, lt-leb 78 k below, low, sym r ∙ not-true g e)
+
+            pub ask-fine : not g ≡ false → slabRefusal (read m) k t ≡ ok
+            unfolding test _⨾_
+            ask-fine e = slabRefusal-read t ∙ simp (fit, shut, lt-leb 78 k below, low, sym r ∙ not-false g e)
 
   -- the tip, by the slab's own marks and words
   pub slabTip-read : k < 78 → length (m .slotMarks) ≡ slabs * m .slots

@@ -8,18 +8,17 @@ use Rattle.abandon.specs.Abandon.{abandonMemory}
 use Rattle.kept.proofs.Checked.{refused-answer, refused-after}
 use Rattle.abandon.proofs.Laws.{fits-says, abandon-fits, abandon-done, abandon-after}
 use Rattle.model.specs.Store as S
-use borrow.Author.Needs.{needs}
 use Rattle.abandon.proofs.abandon.Statement.{statement}
 use Rattle.abandon.proofs.abandon.Tie as tie
 
 check-requires : tie.Need-check-requires
-check-requires c κs = search needs
+check-requires c κs = search
 
 enum-known-refusal : tie.Need-enum-known-refusal
-enum-known-refusal c = search needs
+enum-known-refusal c = search
 
 enum-known-n : tie.Need-enum-known-n
-enum-known-n c = search needs
+enum-known-n c = search
 
 give-slots-requires : tie.Need-give-slots-requires
 give-slots-requires c κs =
@@ -30,16 +29,16 @@ give-slots-requires c κs =
     (l .capacity, l .marks-long)
 
 put-requires : tie.Need-put-requires
-put-requires c κs = search needs
+put-requires c κs = search
 
 same-length : tie.Need-same-length
-same-length c = search needs
+same-length c = search
 
 same-length-2 : tie.Need-same-length-2
-same-length-2 c = search needs
+same-length-2 c = search
 
 same-length-3 : tie.Need-same-length-3
-same-length-3 c = search needs
+same-length-3 c = search
 
 returns : tie.Need-returns
 returns c =
@@ -49,13 +48,13 @@ returns c =
     (sym (refused-answer m S.abandon _ _ e), sym (refused-after m S.abandon _ _ e))
 
 same-length-4 : tie.Need-same-length-4
-same-length-4 c = search needs
+same-length-4 c = search
 
 same-length-5 : tie.Need-same-length-5
-same-length-5 c = search needs
+same-length-5 c = search
 
 same-length-6 : tie.Need-same-length-6
-same-length-6 c = search needs
+same-length-6 c = search
 
 returns-2 : tie.Need-returns-2
 returns-2 c =

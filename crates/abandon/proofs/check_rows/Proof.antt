@@ -1,14 +1,12 @@
 -- The first row that is out of range. The invariant: the first bad row from row i on is the first bad row of all; what is left of n falls.
 -- Assumes nothing.
-use borrow.Author.Needs.{needs}
 use mathlib.Core.Path.{_≡_, _∙_}
 use mathlib.Core.Bool.{true, false}
-use Prim.Native.Nat.{_+_, _-_, _≤_}
+use Prim.Native.Nat.{_-_, _≤_}
 use native.Mathlib.Nat.{sub-zero}
 use native.Mathlib.Omega.{arith}
-use lib.ListN.{getD}
 use Rattle.kept.specs.Kept.{firstBad, rowsFrom, rowOutOfRange}
-use Rattle.kept.proofs.Laws.{firstBad-here, firstBad-next, firstBad-none}
+use Rattle.kept.proofs.Laws.{row-read, firstBad-here, firstBad-next, firstBad-none}
 use Rattle.abandon.proofs.check_rows.Statement.{statement}
 use Rattle.abandon.proofs.check_rows.Tie as tie
 
@@ -22,23 +20,24 @@ loop-holds : tie.Need-loop-holds Inv-loop μ-loop
 loop-holds c = (omega arith, rw sub-zero)
 
 get-requires : tie.Need-get-requires Inv-loop μ-loop
-get-requires c κs = search needs
+get-requires c κs = search
 
 get-requires-2 : tie.Need-get-requires-2 Inv-loop μ-loop
-get-requires-2 c κs = search needs
+get-requires-2 c κs = search
 
 out-of-range-requires : tie.Need-out-of-range-requires Inv-loop μ-loop
-out-of-range-requires c κs = search needs
+out-of-range-requires c κs = search
 
 at-requires : tie.Need-at-requires Inv-loop μ-loop
-at-requires c κs = search needs
+at-requires c κs = search
 
 returns : tie.Need-returns Inv-loop μ-loop
 returns c =
     let a = c .before .before .before .before .before .before .before .before .args in
     let i = c .before .before .before .before .before .before .loop .i in
-    let bad : rowOutOfRange (a .caps .ids) (a .caps .slots) (getD (a .batch .now) (1 + i) 0, getD (a .batch .now) (257 + i) 0) ≡ true = cc in
-    simp (c .at .ensures, c .before .before .before .before .before .before .loop .inv .1, firstBad-here (rowOutOfRange (a .caps .ids) (a .caps .slots)) (a .batch .now) (a .n) i (c .before .before .before .before .before .loop-test .taken) bad)
+    let f = rowOutOfRange (a .caps .ids) (a .caps .slots) in
+    let bad = row-read f _ _ _ _ _ true (c .before .before .before .before .get .ensures) (c .before .before .before .get2 .ensures) (c .before .before .out-of-range .ensures) (c .before .if1 .taken) in
+    simp (c .at .ensures, c .before .before .before .before .before .before .loop .inv .1, firstBad-here f (a .batch .now) (a .n) i (c .before .before .before .before .before .loop-test .taken) bad)
 
 add-i : tie.Need-add-i Inv-loop μ-loop
 add-i c = omega arith
@@ -50,8 +49,9 @@ loop-again : tie.Need-loop-again Inv-loop μ-loop
 loop-again c =
     let a = c .before .before .before .before .before .before .before .args in
     let i = c .before .before .before .before .before .loop .i in
-    let good : rowOutOfRange (a .caps .ids) (a .caps .slots) (getD (a .batch .now) (1 + i) 0, getD (a .batch .now) (257 + i) 0) ≡ false = cc in
-    (omega arith, c .before .before .before .before .before .loop .inv .1 ∙ firstBad-next _ _ _ _ (c .before .before .before .before .loop-test .taken) good)
+    let f = rowOutOfRange (a .caps .ids) (a .caps .slots) in
+    let good = row-read f _ _ _ _ _ false (c .before .before .before .get .ensures) (c .before .before .get2 .ensures) (c .before .out-of-range .ensures) (c .if1 .left) in
+    (omega arith, c .before .before .before .before .before .loop .inv .1 ∙ firstBad-next f (a .batch .now) (a .n) i (c .before .before .before .before .loop-test .taken) good)
 
 returns-2 : tie.Need-returns-2 Inv-loop μ-loop
 returns-2 c =

@@ -13,10 +13,10 @@ use Rattle.abandon.proofs.give_slot.Statement.{statement}
 use Rattle.abandon.proofs.give_slot.Tie as tie
 
 unpack-requires : tie.Need-unpack-requires
-unpack-requires c κs = search needs
+unpack-requires c κs = search
 
 enum-known-address : tie.Need-enum-known-address
-enum-known-address c = search needs
+enum-known-address c = search
 
 returns : tie.Need-returns
 returns c =
@@ -40,7 +40,7 @@ add-get : tie.Need-add-get
 add-get c = record { fits = omega (arith, unpacked-at _ _ _ (sym (c .before .before .before .before .unpack .ensures) ∙ c .before .before .address .given .1) .slab-lt) }
 
 get-requires : tie.Need-get-requires
-get-requires c κs = search needs
+get-requires c κs = search
 
 sub-give-back : tie.Need-sub-give-back
 sub-give-back c = search needs
@@ -54,25 +54,25 @@ part-give-back-end c =
     omega (arith, slab-end (c .before .before .before .before .before .before .before .before .args .slots) _ (u .slab-lt), c .before .before .before .before .before .before .before .before .pre .1)
 
 give-back-requires : tie.Need-give-back-requires
-give-back-requires c κs = search needs
+give-back-requires c κs = search
 
 add-add : tie.Need-add-add
 add-add c = record { fits = omega (arith, unpacked-at _ _ _ (sym (c .before .before .before .before .before .before .before .before .before .before .unpack .ensures) ∙ c .before .before .before .before .before .before .before .before .address .given .1) .slab-lt) }
 
 add-requires : tie.Need-add-requires
-add-requires c κs = search needs
+add-requires c κs = search
 
 add-put : tie.Need-add-put
 add-put c = record { fits = omega (arith, unpacked-at _ _ _ (sym (c .before .before .before .before .before .before .before .before .before .before .before .before .before .before .unpack .ensures) ∙ c .before .before .before .before .before .before .before .before .before .before .before .before .address .given .1) .slab-lt) }
 
 put-requires : tie.Need-put-requires
-put-requires c κs = search needs
+put-requires c κs = search
 
 same-length : tie.Need-same-length
-same-length c = search needs
+same-length c = search
 
 same-length-2 : tie.Need-same-length-2
-same-length-2 c = search needs
+same-length-2 c = search
 
 returns-2 : tie.Need-returns-2
 returns-2 c =

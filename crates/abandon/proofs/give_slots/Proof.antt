@@ -28,7 +28,7 @@ loop-holds : tie.Need-loop-holds Inv-loop μ-loop
 loop-holds c = (omega arith, refl, refl, rw sub-zero)
 
 get-requires : tie.Need-get-requires Inv-loop μ-loop
-get-requires c κs = search needs
+get-requires c κs = search
 
 give-slot-requires : tie.Need-give-slot-requires Inv-loop μ-loop
 give-slot-requires c κs = search needs

@@ -1,16 +1,23 @@
 -- All rows. The invariant: applying the rows from i on, to the tables as they are, is applying all, to the tables at entry; what is left
 -- of n falls. Assumes nothing.
-use mathlib.Core.Path.{_≡_, refl, sym, ap, _∙_}
-use Prim.Native.Nat.{_+_, _-_, _≤_}
+use mathlib.Core.Path.{_≡_, refl, sym, _∙_}
+use Prim.Native.Nat.{ℕ, _+_, _-_, _<_, _≤_}
 use native.Mathlib.Nat.{sub-zero}
 use native.Mathlib.Omega.{arith}
 use lib.ListN.{length}
 use Rattle.model.specs.Memory.{Memory, memoryOf}
 use Rattle.model.specs.MemoryAfter.{commitAll}
 use Rattle.kept.specs.Kept.{rowsFrom}
-use Rattle.commit.proofs.LawsApply.{commit-next, commit-none}
+use Rattle.commit.proofs.LawsApply.{commit-turn, commit-none}
 use Rattle.commit.proofs.apply_rows.Statement.{statement}
 use Rattle.commit.proofs.apply_rows.Tie as tie
+
+-- a row is left, and then one fewer
+one-left : (i n : ℕ) → i < n → i + 1 ≤ n
+one-left i n h = omega arith
+
+fewer : (i n : ℕ) → i < n → n - (i + 1) < n - i
+fewer i n h = omega arith
 
 abbrev Inv-loop : tie.InvT-loop
 Inv-loop caps id-marks₀ locations₀ slot-marks₀ owners₀ batch tallies₀ n i₀ id-marks locations slot-marks owners tallies i =
@@ -36,21 +43,20 @@ add-i : tie.Need-add-i Inv-loop μ-loop
 add-i c = omega arith
 
 loop-less : tie.Need-loop-less Inv-loop μ-loop
-loop-less c = omega arith
+loop-less c = fewer _ _ (c .before .before .before .before .before .before .before .before .before .before .before .before .before .before .before .before .loop-test .taken)
 
 loop-again : tie.Need-loop-again Inv-loop μ-loop
 loop-again c =
     let a = c .before .before .before .before .before .before .before .before .before .before .before .before .before .before .before .before .before .before .before .before .before .before .before .before .args in
     let l = c .before .before .before .before .before .before .before .before .before .before .before .before .before .before .before .before .before .loop in
     let m : Memory = memoryOf (a .caps .ids) (a .caps .slots) (l .id-marks) (l .locations) (l .slot-marks) (l .owners) (a .batch .now) (l .tallies) in (
-      omega arith,
-      omega arith,
-      omega arith,
-      omega arith,
-      omega arith,
-      omega arith,
-      ap (λ (x : Memory). commitAll x (rowsFrom (a .batch .now) (a .n - (l .i + 1)) (l .i + 1))) (c .before .before .before .before .before .before .before .before .before .before .apply-row .ensures)
-          ∙ sym (commit-next m (a .batch .now) (a .n) (l .i) (c .before .before .before .before .before .before .before .before .before .before .before .before .before .before .before .before .loop-test .taken)) ∙ l .inv .6,
+      one-left _ _ (c .before .before .before .before .before .before .before .before .before .before .before .before .before .before .before .before .loop-test .taken),
+      c .before .before .before .before .before .before .before .before .before .id-marks .given ∙ l .inv .1,
+      c .before .before .before .before .before .before .before .locations .given ∙ l .inv .2,
+      c .before .before .before .before .before .slot-marks .given ∙ l .inv .3,
+      c .before .before .before .owners .given ∙ l .inv .4,
+      c .before .tallies .given ∙ l .inv .5,
+      commit-turn m (a .batch .now) (a .n) (l .i) _ _ (c .before .before .before .before .before .before .before .before .before .before .before .before .before .before .before .before .loop-test .taken) (c .before .before .before .before .before .before .before .before .before .before .apply-row .ensures) (l .inv .6),
     )
 
 same-length : tie.Need-same-length Inv-loop μ-loop

@@ -6,15 +6,14 @@ use Rattle.model.specs.MemoryAfter.{Slots, pendedSlot, setSlot}
 use Rattle.tables.proofs.LawsEntries.{else-is, start-lt}
 use Rattle.kept.specs.Kept.{byAddress}
 use Rattle.kept.proofs.Laws.{location-address}
-use borrow.Author.Needs.{needs}
 use Rattle.commit.proofs.pend_slot.Statement.{statement}
 use Rattle.commit.proofs.pend_slot.Tie as tie
 
 unpack-requires : tie.Need-unpack-requires
-unpack-requires c κs = search needs
+unpack-requires c κs = search
 
 enum-known-address : tie.Need-enum-known-address
-enum-known-address c = search needs
+enum-known-address c = search
 
 returns : tie.Need-returns
 returns c =
@@ -40,13 +39,13 @@ add-put c =
     record { fits = omega (arith, start-lt _ _ (u .slab-lt) (u .capacity), u .slot-lt, slots-range _ (u .capacity) .1) }
 
 put-requires : tie.Need-put-requires
-put-requires c κs = search needs
+put-requires c κs = search
 
 same-length : tie.Need-same-length
-same-length c = search needs
+same-length c = search
 
 same-length-2 : tie.Need-same-length-2
-same-length-2 c = search needs
+same-length-2 c = search
 
 returns-2 : tie.Need-returns-2
 returns-2 c =

@@ -8,15 +8,14 @@ use Rattle.address.proofs.Laws.{unpacked-at}
 use Rattle.tables.proofs.LawsEntries.{else-is, start-lt}
 use Rattle.kept.specs.Kept.{byAddress}
 use Rattle.kept.proofs.Laws.{location-address}
-use borrow.Author.Needs.{needs}
 use Rattle.commit.proofs.put_owner.Statement.{statement}
 use Rattle.commit.proofs.put_owner.Tie as tie
 
 unpack-requires : tie.Need-unpack-requires
-unpack-requires c κs = search needs
+unpack-requires c κs = search
 
 enum-known-address : tie.Need-enum-known-address
-enum-known-address c = search needs
+enum-known-address c = search
 
 returns : tie.Need-returns
 returns c =
@@ -32,10 +31,10 @@ mul-put c =
     record { fits = omega (arith, start-lt _ _ (u .slab-lt) (u .capacity)) }
 
 put-requires : tie.Need-put-requires
-put-requires c κs = search needs
+put-requires c κs = search
 
 same-length : tie.Need-same-length
-same-length c = search needs
+same-length c = search
 
 returns-2 : tie.Need-returns-2
 returns-2 c =

@@ -4,15 +4,14 @@ use Prim.Native.Nat.{ℕ}
 use lib.ListN.{getD}
 use Rattle.model.specs.MemoryAfter.{readyMarks, readyWords}
 use Rattle.commit.proofs.LawsApply.{readyMarks-busy, readyWords-busy}
-use borrow.Author.Needs.{needs}
 use Rattle.commit.proofs.ready_ids.Statement.{statement}
 use Rattle.commit.proofs.ready_ids.Tie as tie
 
 get-requires : tie.Need-get-requires
-get-requires c κs = search needs
+get-requires c κs = search
 
 same-length : tie.Need-same-length
-same-length c = search needs
+same-length c = search
 
 returns : tie.Need-returns
 returns c =
@@ -22,16 +21,16 @@ returns c =
     (sym (readyMarks-busy w (a .id-marks .now) busy), sym (readyWords-busy (a .tallies .now) 0 w busy))
 
 settle-requires : tie.Need-settle-requires
-settle-requires c κs = search needs
+settle-requires c κs = search
 
 put-requires : tie.Need-put-requires
-put-requires c κs = search needs
+put-requires c κs = search
 
 same-length-2 : tie.Need-same-length-2
-same-length-2 c = search needs
+same-length-2 c = search
 
 same-length-3 : tie.Need-same-length-3
-same-length-3 c = search needs
+same-length-3 c = search
 
 returns-2 : tie.Need-returns-2
 returns-2 c =

@@ -13,10 +13,10 @@ add-get : tie.Need-add-get
 add-get c = search needs
 
 get-requires : tie.Need-get-requires
-get-requires c κs = search needs
+get-requires c κs = search
 
 same-length : tie.Need-same-length
-same-length c = search needs
+same-length c = search
 
 returns : tie.Need-returns
 returns c =
@@ -39,19 +39,19 @@ part-settle-end : tie.Need-part-settle-end
 part-settle-end c = omega (arith, slab-end (c .before .before .before .before .before .args .slots) (c .before .before .before .before .before .args .slab) (c .before .before .before .before .before .pre .0), c .before .before .before .before .before .pre .2)
 
 settle-requires : tie.Need-settle-requires
-settle-requires c κs = search needs
+settle-requires c κs = search
 
 add-put : tie.Need-add-put
 add-put c = search needs
 
 put-requires : tie.Need-put-requires
-put-requires c κs = search needs
+put-requires c κs = search
 
 same-length-2 : tie.Need-same-length-2
-same-length-2 c = search needs
+same-length-2 c = search
 
 same-length-3 : tie.Need-same-length-3
-same-length-3 c = search needs
+same-length-3 c = search
 
 returns-2 : tie.Need-returns-2
 returns-2 c =

@@ -1,61 +1,58 @@
 -- `offer::offer` meets its contract. Each refusal is told by the tests on the way (LawsOffer); what is granted leaves the tables that the model leaves,
 -- since the slots found with the hints are the model's (LawsPlaces). Assumes nothing.
-use mathlib.Core.Path.{_≡_, sym, ap, _∙_}
-use Prim.Native.Nat.{_≤_}
-use native.Mathlib.Omega.{arith}
+use mathlib.Core.Path.{sym, ap, _∙_}
 use lib.ListN.{length, take}
-use borrow.Author.Tests.{not-true, not-false}
 use borrow.Author.Needs.{needs}
 use Rattle.model.specs.Memory.{memoryOf}
 use Rattle.offer.specs.Verdicts.{verdictOf}
-use Rattle.offer.proofs.LawsOffer.{leaves-as, leaves-verdict, leaves-done, refused-shape, refused-open, refused-many, rest-told, kinds-told, kinds-long}
+use Rattle.offer.proofs.LawsOffer.{leaves-as, leaves-verdict, leaves-done, refused-shape, refused-open, refused-many, fits-told, fits-failed, rest-told, kinds-told, kinds-long}
 use Rattle.offer.proofs.offer.Statement.{statement}
 use Rattle.offer.proofs.offer.Tie as tie
 
 fits-requires : tie.Need-fits-requires
-fits-requires c κs = search needs
+fits-requires c κs = search
 
 of-requires : tie.Need-of-requires
-of-requires c κs = search needs
+of-requires c κs = search
 
 returns : tie.Need-returns
 returns c =
     let a = c .before .before .before .before .before .before .before .before .before .before .before .before .before .args in
     let m = memoryOf (a .caps .ids) (a .caps .slots) (a .id-marks .now) (a .locations .now) (a .slot-marks .now) (a .owners .now) (a .batch .now) (a .tallies .now) in
-    leaves-as m (a .ids .now) (a .stores .now) (a .lengths .now) (a .placed .now) (c .of .result) 1 (c .of .ensures) (refused-shape m (a .ids .now) (a .stores .now) (a .lengths .now) (a .placed .now) (sym (c .before .before .fits2 .ensures) ∙ not-true (c .before .before .fits2 .result) (c .before .if1 .taken)))
+    leaves-as m (a .ids .now) (a .stores .now) (a .lengths .now) (a .placed .now) (c .of .result) 1 (c .of .ensures) (refused-shape m (a .ids .now) (a .stores .now) (a .lengths .now) (a .placed .now) (fits-failed m (a .ids .now) (a .stores .now) (a .lengths .now) (a .placed .now) (c .before .before .fits2 .result) (c .before .before .fits2 .ensures) (c .before .if1 .taken)))
 
 get-requires : tie.Need-get-requires
-get-requires c κs = search needs
+get-requires c κs = search
 
 of-requires-2 : tie.Need-of-requires-2
-of-requires-2 c κs = search needs
+of-requires-2 c κs = search
 
 same-length : tie.Need-same-length
-same-length c = search needs
+same-length c = search
 
 returns-2 : tie.Need-returns-2
 returns-2 c =
     let a = c .before .before .before .before .before .before .before .before .before .before .before .before .before .before .before .before .args in
     let m = memoryOf (a .caps .ids) (a .caps .slots) (a .id-marks .now) (a .locations .now) (a .slot-marks .now) (a .owners .now) (a .batch .now) (a .tallies .now) in
-    let e = sym (c .before .before .before .before .before .fits2 .ensures) ∙ not-false (c .before .before .before .before .before .fits2 .result) (c .before .before .before .before .if1 .left) in
+    let e = fits-told m (a .ids .now) (a .stores .now) (a .lengths .now) (a .placed .now) (c .before .before .before .before .before .fits2 .result) (c .before .before .before .before .before .fits2 .ensures) (c .before .before .before .before .if1 .left) in
     leaves-as m (a .ids .now) (a .stores .now) (a .lengths .now) (a .placed .now) (c .of2 .result) 11 (c .of2 .ensures) (refused-open m (a .ids .now) (a .stores .now) (a .lengths .now) (a .placed .now) e (λ q. c .before .if2 .taken (c .before .before .get .ensures ∙ q)))
 
 of-requires-3 : tie.Need-of-requires-3
-of-requires-3 c κs = search needs
+of-requires-3 c κs = search
 
 same-length-2 : tie.Need-same-length-2
-same-length-2 c = search needs
+same-length-2 c = search
 
 returns-3 : tie.Need-returns-3
 returns-3 c =
     let a = c .before .before .before .before .before .before .before .before .before .before .before .before .before .before .before .before .before .args in
     let m = memoryOf (a .caps .ids) (a .caps .slots) (a .id-marks .now) (a .locations .now) (a .slot-marks .now) (a .owners .now) (a .batch .now) (a .tallies .now) in
-    let e = sym (c .before .before .before .before .before .before .fits2 .ensures) ∙ not-false (c .before .before .before .before .before .before .fits2 .result) (c .before .before .before .before .before .if1 .left) in
-    let z : c .before .before .before .get .result ≡ 0 = omega arith in
+    let e = fits-told m (a .ids .now) (a .stores .now) (a .lengths .now) (a .placed .now) (c .before .before .before .before .before .before .fits2 .result) (c .before .before .before .before .before .before .fits2 .ensures) (c .before .before .before .before .before .if1 .left) in
+    let z = c .before .before .if2 .left in
     leaves-as m (a .ids .now) (a .stores .now) (a .lengths .now) (a .placed .now) (c .of3 .result) 15 (c .of3 .ensures) (refused-many m (a .ids .now) (a .stores .now) (a .lengths .now) (a .placed .now) e (sym (c .before .before .before .get .ensures) ∙ z) (c .before .if3 .taken))
 
 kinds-requires : tie.Need-kinds-requires
-kinds-requires c κs = search needs
+kinds-requires c κs = search
 
 array-share-prefix-all : tie.Need-array-share-prefix-all
 array-share-prefix-all c = search needs
@@ -64,67 +61,67 @@ slice-aggregate-slabs : tie.Need-slice-aggregate-slabs
 slice-aggregate-slabs c =
     let a = c .before .before .before .before .before .before .before .before .before .before .before .before .before .before .before .before .before .before .args in
     let m = memoryOf (a .caps .ids) (a .caps .slots) (a .id-marks .now) (a .locations .now) (a .slot-marks .now) (a .owners .now) (a .batch .now) (a .tallies .now) in
-    let e = sym (c .before .before .before .before .before .before .before .fits2 .ensures) ∙ not-false (c .before .before .before .before .before .before .before .fits2 .result) (c .before .before .before .before .before .before .if1 .left) in
-    let few : length (a .ids .now) ≤ 256 = omega arith in
+    let e = fits-told m (a .ids .now) (a .stores .now) (a .lengths .now) (a .placed .now) (c .before .before .before .before .before .before .before .fits2 .result) (c .before .before .before .before .before .before .before .fits2 .ensures) (c .before .before .before .before .before .before .if1 .left) in
+    let few = c .before .before .if3 .left in
     sym (kinds-long m (a .ids .now) (a .stores .now) (a .lengths .now) (a .placed .now) e few (c .before .kinds .result) (c .before .kinds .ensures))
 
 refused-requires : tie.Need-refused-requires
-refused-requires c κs = search needs
+refused-requires c κs = search
 
 enum-told : tie.Need-enum-told
-enum-told c = search needs
+enum-told c = search
 
 enum-told-2 : tie.Need-enum-told-2
-enum-told-2 c = search needs
+enum-told-2 c = search
 
 same-length-3 : tie.Need-same-length-3
-same-length-3 c = search needs
+same-length-3 c = search
 
 same-length-4 : tie.Need-same-length-4
-same-length-4 c = search needs
+same-length-4 c = search
 
 same-length-5 : tie.Need-same-length-5
-same-length-5 c = search needs
+same-length-5 c = search
 
 returns-4 : tie.Need-returns-4
 returns-4 c =
     let a = c .before .before .before .before .before .before .before .before .before .before .before .before .before .before .before .before .before .before .before .before .before .before .before .args in
     let m = memoryOf (a .caps .ids) (a .caps .slots) (a .id-marks .now) (a .locations .now) (a .slot-marks .now) (a .owners .now) (a .batch .now) (a .tallies .now) in
-    let e = sym (c .before .before .before .before .before .before .before .before .before .before .before .before .fits2 .ensures) ∙ not-false (c .before .before .before .before .before .before .before .before .before .before .before .before .fits2 .result) (c .before .before .before .before .before .before .before .before .before .before .before .if1 .left) in
-    let z : c .before .before .before .before .before .before .before .before .before .get .result ≡ 0 = omega arith in
-    let few : length (a .ids .now) ≤ 256 = omega arith in
+    let e = fits-told m (a .ids .now) (a .stores .now) (a .lengths .now) (a .placed .now) (c .before .before .before .before .before .before .before .before .before .before .before .before .fits2 .result) (c .before .before .before .before .before .before .before .before .before .before .before .before .fits2 .ensures) (c .before .before .before .before .before .before .before .before .before .before .before .if1 .left) in
+    let z = c .before .before .before .before .before .before .before .before .if2 .left in
+    let few = c .before .before .before .before .before .before .before .if3 .left in
     let r = c .before .before .before .before .before .before .kinds .result in
     leaves-verdict m (a .ids .now) (a .stores .now) (a .lengths .now) (a .placed .now) (c .before .before .refused .result) _ (c .enum-told2 .given .1)
     (rest-told m (a .ids .now) (a .stores .now) (a .lengths .now) (a .placed .now) e (sym (c .before .before .before .before .before .before .before .before .before .get .ensures) ∙ z) few (take (length (a .ids .now)) r) (kinds-told m (a .ids .now) (a .stores .now) (a .lengths .now) (a .placed .now) e few r (c .before .before .before .before .before .before .kinds .ensures)) _ (c .before .before .refused .ensures))
 
 place-requires : tie.Need-place-requires
-place-requires c κs = search needs
+place-requires c κs = search
 
 add-keep : tie.Need-add-keep
 add-keep c = search needs
 
 keep-requires : tie.Need-keep-requires
-keep-requires c κs = search needs
+keep-requires c κs = search
 
 same-length-6 : tie.Need-same-length-6
-same-length-6 c = search needs
+same-length-6 c = search
 
 same-length-7 : tie.Need-same-length-7
-same-length-7 c = search needs
+same-length-7 c = search
 
 same-length-8 : tie.Need-same-length-8
-same-length-8 c = search needs
+same-length-8 c = search
 
 same-length-9 : tie.Need-same-length-9
-same-length-9 c = search needs
+same-length-9 c = search
 
 returns-5 : tie.Need-returns-5
 returns-5 c =
     let a = c .before .before .before .before .before .before .before .before .before .before .before .before .before .before .before .before .before .before .before .before .before .before .before .before .before .before .before .before .before .before .before .before .before .before .before .before .before .before .args in
     let m = memoryOf (a .caps .ids) (a .caps .slots) (a .id-marks .now) (a .locations .now) (a .slot-marks .now) (a .owners .now) (a .batch .now) (a .tallies .now) in
-    let e = sym (c .before .before .before .before .before .before .before .before .before .before .before .before .before .before .before .before .before .before .before .before .before .before .before .before .before .before .before .fits2 .ensures) ∙ not-false (c .before .before .before .before .before .before .before .before .before .before .before .before .before .before .before .before .before .before .before .before .before .before .before .before .before .before .before .fits2 .result) (c .before .before .before .before .before .before .before .before .before .before .before .before .before .before .before .before .before .before .before .before .before .before .before .before .before .before .if1 .left) in
-    let z : c .before .before .before .before .before .before .before .before .before .before .before .before .before .before .before .before .before .before .before .before .before .before .before .before .get .result ≡ 0 = omega arith in
-    let few : length (a .ids .now) ≤ 256 = omega arith in
+    let e = fits-told m (a .ids .now) (a .stores .now) (a .lengths .now) (a .placed .now) (c .before .before .before .before .before .before .before .before .before .before .before .before .before .before .before .before .before .before .before .before .before .before .before .before .before .before .before .fits2 .result) (c .before .before .before .before .before .before .before .before .before .before .before .before .before .before .before .before .before .before .before .before .before .before .before .before .before .before .before .fits2 .ensures) (c .before .before .before .before .before .before .before .before .before .before .before .before .before .before .before .before .before .before .before .before .before .before .before .before .before .before .if1 .left) in
+    let z = c .before .before .before .before .before .before .before .before .before .before .before .before .before .before .before .before .before .before .before .before .before .before .before .if2 .left in
+    let few = c .before .before .before .before .before .before .before .before .before .before .before .before .before .before .before .before .before .before .before .before .before .before .if3 .left in
     let r = c .before .before .before .before .before .before .before .before .before .before .before .before .before .before .before .before .before .before .before .before .before .kinds .result in
     let ks = take (length (a .ids .now)) r in
     let κ = kinds-told m (a .ids .now) (a .stores .now) (a .lengths .now) (a .placed .now) e few r (c .before .before .before .before .before .before .before .before .before .before .before .before .before .before .before .before .before .before .before .before .before .kinds .ensures) in

@@ -7,25 +7,25 @@ use Rattle.offer.proofs.refused.Statement.{statement}
 use Rattle.offer.proofs.refused.Tie as tie
 
 check-requires : tie.Need-check-requires
-check-requires c κs = search needs
+check-requires c κs = search
 
 enum-told : tie.Need-enum-told
-enum-told c = search needs
+enum-told c = search
 
 enum-told-2 : tie.Need-enum-told-2
-enum-told-2 c = search needs
+enum-told-2 c = search
 
 returns : tie.Need-returns
 returns c = seq-stop (c .before .before .check .result) _ _ _ (c .before .before .check .ensures) (c .enum-told2 .given .1)
 
 tally-requires : tie.Need-tally-requires
-tally-requires c κs = search needs
+tally-requires c κs = search
 
 slice-aggregate-room : tie.Need-slice-aggregate-room
 slice-aggregate-room c = search needs
 
 room-requires : tie.Need-room-requires
-room-requires c κs = search needs
+room-requires c κs = search
 
 returns-2 : tie.Need-returns-2
 returns-2 c =

@@ -4,27 +4,26 @@ use Prim.Native.Nat.{_<_, _≤_}
 use native.Mathlib.Omega.{arith}
 use lib.ListN.{getD}
 use borrow.Author.Tests.{not-true, not-false, lt-ltb, le-ltb}
-use borrow.Author.Needs.{needs}
 use Rattle.model.specs.Verdict.{_⨾_, test}
 use Rattle.release.proofs.Laws.{release-answer}
 use Rattle.release.proofs.granted.Statement.{statement}
 use Rattle.release.proofs.granted.Tie as tie
 
 release-fits-requires : tie.Need-release-fits-requires
-release-fits-requires c κs = search needs
+release-fits-requires c κs = search
 
 of-requires : tie.Need-of-requires
-of-requires c κs = search needs
+of-requires c κs = search
 
 returns : tie.Need-returns
 unfolding test _⨾_
 returns c = rw release-answer (simp (c .of .ensures, sym (c .before .before .release-fits .ensures) ∙ not-true _ (c .before .if1 .taken)))
 
 get-requires : tie.Need-get-requires
-get-requires c κs = search needs
+get-requires c κs = search
 
 of-requires-2 : tie.Need-of-requires-2
-of-requires-2 c κs = search needs
+of-requires-2 c κs = search
 
 returns-2 : tie.Need-returns-2
 unfolding test _⨾_

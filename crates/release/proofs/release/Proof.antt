@@ -9,13 +9,13 @@ use Rattle.release.proofs.release.Statement.{statement}
 use Rattle.release.proofs.release.Tie as tie
 
 granted-requires : tie.Need-granted-requires
-granted-requires c κs = search needs
+granted-requires c κs = search
 
 enum-told : tie.Need-enum-told
-enum-told c = search needs
+enum-told c = search
 
 release-allocator-requires : tie.Need-release-allocator-requires
-release-allocator-requires c κs = search needs
+release-allocator-requires c κs = search
 
 release-slabs-requires : tie.Need-release-slabs-requires
 release-slabs-requires c κs =
@@ -24,13 +24,13 @@ release-slabs-requires c κs =
     release-length m (sym (ap releasedAnswer (c .before .before .before .before .before .before .before .before .before .enum-told .given .1)) ∙ c .before .before .before .before .before .before .before .before .before .before .before .granted .ensures)
 
 enum-known-refusal : tie.Need-enum-known-refusal
-enum-known-refusal c = search needs
+enum-known-refusal c = search
 
 same-length : tie.Need-same-length
-same-length c = search needs
+same-length c = search
 
 same-length-2 : tie.Need-same-length-2
-same-length-2 c = search needs
+same-length-2 c = search
 
 same-length-3 : tie.Need-same-length-3
 same-length-3 c = search needs
@@ -43,13 +43,13 @@ returns c =
     (e, release-after m _ _ _ e (c .before .before .before .before .before .before .before .before .before .before .before .release-allocator .ensures .0) (c .before .before .before .before .before .before .before .before .before .before .before .release-allocator .ensures .1) (c .before .before .before .before .release-slabs .ensures))
 
 same-length-4 : tie.Need-same-length-4
-same-length-4 c = search needs
+same-length-4 c = search
 
 same-length-5 : tie.Need-same-length-5
-same-length-5 c = search needs
+same-length-5 c = search
 
 same-length-6 : tie.Need-same-length-6
-same-length-6 c = search needs
+same-length-6 c = search
 
 returns-2 : tie.Need-returns-2
 returns-2 c =

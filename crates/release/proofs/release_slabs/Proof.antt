@@ -37,7 +37,7 @@ part-release-allocator-end : tie.Need-part-release-allocator-end Inv-loop μ-loo
 part-release-allocator-end c = let w = start-within (c .before .before .before .before .args .slots) (c .before .loop .slab) (c .before .loop .start) (c .before .loop .inv .1) (omega arith) in omega arith
 
 release-allocator-requires : tie.Need-release-allocator-requires Inv-loop μ-loop
-release-allocator-requires c κs = search needs
+release-allocator-requires c κs = search
 
 loop-less : tie.Need-loop-less Inv-loop μ-loop
 loop-less c = search needs
@@ -50,10 +50,10 @@ loop-again c =
     (search needs, start-next (a .slots) (l .slab) (l .start) (l .inv .1), search needs, search needs, turn ∙ l .inv .4)
 
 same-length : tie.Need-same-length Inv-loop μ-loop
-same-length c = search needs
+same-length c = search
 
 same-length-2 : tie.Need-same-length-2 Inv-loop μ-loop
-same-length-2 c = search needs
+same-length-2 c = search
 
 returns : tie.Need-returns Inv-loop μ-loop
 returns c = release-end _ (slabs - c .before .loop .slab) (c .before .loop .slab) _ (omega arith) ∙ c .before .loop .inv .4

@@ -1,77 +1,73 @@
--- `truncation::ask` meets its contract: the tests in document 01's order, each on lengths and words (slabRefusal-read), then the tip of the
--- slab by its own marks (slabTip-read). Assumes nothing.
-use mathlib.Core.Path.{_≡_, sym, _∙_}
-use Prim.Native.Nat.{_<_, _≤_}
-use native.Mathlib.Omega.{arith}
-use lib.ListN.{getD}
-use borrow.Author.Tests.{not-true, not-false, lt-ltb, le-ltb, le-leb, lt-leb}
-use borrow.Author.Needs.{needs}
-use Rattle.model.specs.Memory.{word, highWords, read}
-use Rattle.model.specs.Tables.{slabTip}
-use Rattle.model.specs.Verdict.{_⨾_, test}
+-- `truncation::ask` meets its contract: the tests in document 01's order, each on lengths and words (ask-shape to ask-fine), then the tip of
+-- the slab by its own marks (slabTip-read). Assumes nothing.
+use mathlib.Core.Path.{sym, _∙_}
+use borrow.Author.Tests.{not-false}
+use Rattle.refusal.specs.Refusals.{wrongShape, batchOpen, outOfRange, ratioOutOfRange}
 use Rattle.truncation.specs.Truncations.{slabMemory}
-use Rattle.truncation.proofs.Laws.{slabRefusal-read, slabFits-says, slabTip-read}
+use Rattle.truncation.proofs.Laws.{ask-refused, ask-tip, ask-shape, ask-open, ask-slab, ask-high, ask-target, ask-fine, slabFits-says, slabTip-read}
 use Rattle.truncation.proofs.ask.Statement.{statement}
 use Rattle.truncation.proofs.ask.Tie as tie
 
 slab-fits-requires : tie.Need-slab-fits-requires
-slab-fits-requires c κs = search needs
+slab-fits-requires c κs = search
 
 of-requires : tie.Need-of-requires
-of-requires c κs = search needs
+of-requires c κs = search
 
 returns : tie.Need-returns
-unfolding test _⨾_
-returns c = rw slabRefusal-read (simp (c .of .ensures, sym (c .before .before .slab-fits .ensures) ∙ not-true _ (c .before .if1 .taken)))
+returns c =
+    let a = c .before .before .before .before .before .before .args in
+    let m = slabMemory (a .caps) (a .slot-marks .now) (a .batch .now) (a .tallies .now) in
+    ask-refused m (a .slab) (a .t) (c .of .result) wrongShape (c .of .ensures) (ask-shape m (a .slab) (a .t) (c .before .before .slab-fits .result) (c .before .before .slab-fits .ensures) (c .before .if1 .taken))
 
 get-requires : tie.Need-get-requires
-get-requires c κs = search needs
+get-requires c κs = search
 
 of-requires-2 : tie.Need-of-requires-2
-of-requires-2 c κs = search needs
+of-requires-2 c κs = search
 
 returns-2 : tie.Need-returns-2
-unfolding test _⨾_
 returns-2 c =
-    let kept : 0 < getD (c .before .before .before .before .before .before .before .before .args .batch .now) 0 0 = omega (arith, c .before .before .get .ensures, c .before .if2 .taken) in
-    rw slabRefusal-read (simp (c .of2 .ensures, sym (c .before .before .before .before .slab-fits .ensures) ∙ not-false _ (c .before .before .before .if1 .left), lt-ltb _ _ kept))
+    let a = c .before .before .before .before .before .before .before .before .args in
+    let m = slabMemory (a .caps) (a .slot-marks .now) (a .batch .now) (a .tallies .now) in
+    let fit = sym (c .before .before .before .before .slab-fits .ensures) ∙ not-false _ (c .before .before .before .if1 .left) in
+    ask-refused m (a .slab) (a .t) (c .of2 .result) batchOpen (c .of2 .ensures) (ask-open m (a .slab) (a .t) fit (c .before .before .get .result) (c .before .before .get .ensures) (c .before .if2 .taken))
 
 of-requires-3 : tie.Need-of-requires-3
-of-requires-3 c κs = search needs
+of-requires-3 c κs = search
 
 returns-3 : tie.Need-returns-3
-unfolding test _⨾_
 returns-3 c =
-    let shut : getD (c .before .before .before .before .before .before .before .before .before .args .batch .now) 0 0 ≤ 0 = omega (arith, c .before .before .before .get .ensures, c .before .before .if2 .left) in
-    rw slabRefusal-read (simp (c .of3 .ensures, sym (c .before .before .before .before .before .slab-fits .ensures) ∙ not-false _ (c .before .before .before .before .if1 .left), le-ltb _ _ shut, le-leb 78 _ (c .before .if3 .taken)))
+    let a = c .before .before .before .before .before .before .before .before .before .args in
+    let m = slabMemory (a .caps) (a .slot-marks .now) (a .batch .now) (a .tallies .now) in
+    let fit = sym (c .before .before .before .before .before .slab-fits .ensures) ∙ not-false _ (c .before .before .before .before .if1 .left) in
+    ask-refused m (a .slab) (a .t) (c .of3 .result) outOfRange (c .of3 .ensures) (ask-slab m (a .slab) (a .t) fit (c .before .before .before .get .result) (c .before .before .before .get .ensures) (c .before .before .if2 .left) (c .before .if3 .taken))
 
 get-requires-2 : tie.Need-get-requires-2
-get-requires-2 c κs = search needs
+get-requires-2 c κs = search
 
 of-requires-4 : tie.Need-of-requires-4
-of-requires-4 c κs = search needs
+of-requires-4 c κs = search
 
 returns-4 : tie.Need-returns-4
-unfolding test _⨾_
 returns-4 c =
     let a = c .before .before .before .before .before .before .before .before .before .before .before .args in
-    let shut : getD (a .batch .now) 0 0 ≤ 0 = omega (arith, c .before .before .before .before .before .get .ensures, c .before .before .before .before .if2 .left) in
-    let high : a .caps .slots ≤ word (a .tallies .now) highWords (a .slab) = omega (arith, c .before .before .get2 .ensures, c .before .if4 .taken) in
-    rw slabRefusal-read (simp (c .of4 .ensures, sym (c .before .before .before .before .before .before .before .slab-fits .ensures) ∙ not-false _ (c .before .before .before .before .before .before .if1 .left), le-ltb _ _ shut, lt-leb 78 _ (c .before .before .before .if3 .left), le-leb _ _ high))
+    let m = slabMemory (a .caps) (a .slot-marks .now) (a .batch .now) (a .tallies .now) in
+    let fit = sym (c .before .before .before .before .before .before .before .slab-fits .ensures) ∙ not-false _ (c .before .before .before .before .before .before .if1 .left) in
+    ask-refused m (a .slab) (a .t) (c .of4 .result) outOfRange (c .of4 .ensures) (ask-high m (a .slab) (a .t) fit (c .before .before .before .before .before .get .result) (c .before .before .before .before .before .get .ensures) (c .before .before .before .before .if2 .left) (c .before .before .before .if3 .left) (c .before .before .get2 .result) (c .before .before .get2 .ensures) (c .before .if4 .taken))
 
 is-target-requires : tie.Need-is-target-requires
-is-target-requires c κs = search needs
+is-target-requires c κs = search
 
 of-requires-5 : tie.Need-of-requires-5
-of-requires-5 c κs = search needs
+of-requires-5 c κs = search
 
 returns-5 : tie.Need-returns-5
-unfolding test _⨾_
 returns-5 c =
     let a = c .before .before .before .before .before .before .before .before .before .before .before .before .before .args in
-    let shut : getD (a .batch .now) 0 0 ≤ 0 = omega (arith, c .before .before .before .before .before .before .before .get .ensures, c .before .before .before .before .before .before .if2 .left) in
-    let high : word (a .tallies .now) highWords (a .slab) < a .caps .slots = omega (arith, c .before .before .before .before .get2 .ensures, c .before .before .before .if4 .left) in
-    rw slabRefusal-read (simp (c .of5 .ensures, sym (c .before .before .before .before .before .before .before .before .before .slab-fits .ensures) ∙ not-false _ (c .before .before .before .before .before .before .before .before .if1 .left), le-ltb _ _ shut, lt-leb 78 _ (c .before .before .before .before .before .if3 .left), lt-leb _ _ high, sym (c .before .before .is-target .ensures) ∙ not-true _ (c .before .if5 .taken)))
+    let m = slabMemory (a .caps) (a .slot-marks .now) (a .batch .now) (a .tallies .now) in
+    let fit = sym (c .before .before .before .before .before .before .before .before .before .slab-fits .ensures) ∙ not-false _ (c .before .before .before .before .before .before .before .before .if1 .left) in
+    ask-refused m (a .slab) (a .t) (c .of5 .result) ratioOutOfRange (c .of5 .ensures) (ask-target m (a .slab) (a .t) fit (c .before .before .before .before .before .before .before .get .result) (c .before .before .before .before .before .before .before .get .ensures) (c .before .before .before .before .before .before .if2 .left) (c .before .before .before .before .before .if3 .left) (c .before .before .before .before .get2 .result) (c .before .before .before .before .get2 .ensures) (c .before .before .before .if4 .left) (c .before .before .is-target .result) (c .before .before .is-target .ensures) (c .before .if5 .taken))
 
 slab-tip-requires : tie.Need-slab-tip-requires
 slab-tip-requires c κs =
@@ -79,16 +75,12 @@ slab-tip-requires c κs =
     (c .before .before .before .before .if3 .left, f .range .slots-to, f .marks-long)
 
 returns-6 : tie.Need-returns-6
-unfolding test _⨾_
 returns-6 c =
     let a = c .before .before .before .before .before .before .before .before .before .before .before .before .before .args in
     let m = slabMemory (a .caps) (a .slot-marks .now) (a .batch .now) (a .tallies .now) in
-    let shut : getD (a .batch .now) 0 0 ≤ 0 = omega (arith, c .before .before .before .before .before .before .before .get .ensures, c .before .before .before .before .before .before .if2 .left) in
-    let high : word (a .tallies .now) highWords (a .slab) < a .caps .slots = omega (arith, c .before .before .before .before .get2 .ensures, c .before .before .before .if4 .left) in
-    let fine = sym (c .before .before .before .before .before .before .before .before .before .slab-fits .ensures) ∙ not-false _ (c .before .before .before .before .before .before .before .before .if1 .left) in
-    let tip : c .slab-tip .result ≡ slabTip (read m) (a .slab) =
-    c .slab-tip .ensures ∙ sym (slabTip-read m (a .slab) (c .before .before .before .before .before .if3 .left) (slabFits-says _ _ _ _ _ fine .marks-long)) in
-    rw slabRefusal-read (simp (tip, fine, le-ltb _ _ shut, lt-leb 78 _ (c .before .before .before .before .before .if3 .left), lt-leb _ _ high, sym (c .before .before .is-target .ensures) ∙ not-false _ (c .before .if5 .left)))
+    let fit = sym (c .before .before .before .before .before .before .before .before .before .slab-fits .ensures) ∙ not-false _ (c .before .before .before .before .before .before .before .before .if1 .left) in
+    let tip = c .slab-tip .ensures ∙ sym (slabTip-read m (a .slab) (c .before .before .before .before .before .if3 .left) (slabFits-says _ _ _ _ _ fit .marks-long)) in
+    ask-tip m (a .slab) (a .t) (c .slab-tip .result) tip (ask-fine m (a .slab) (a .t) fit (c .before .before .before .before .before .before .before .get .result) (c .before .before .before .before .before .before .before .get .ensures) (c .before .before .before .before .before .before .if2 .left) (c .before .before .before .before .before .if3 .left) (c .before .before .before .before .get2 .result) (c .before .before .before .before .get2 .ensures) (c .before .before .before .if4 .left) (c .before .before .is-target .result) (c .before .before .is-target .ensures) (c .before .if5 .left))
 
 pub ask-spec : {M : Type 1} → statement M
 ask-spec =

@@ -11,13 +11,13 @@ use Rattle.truncation.proofs.cut_done.Statement.{statement}
 use Rattle.truncation.proofs.cut_done.Tie as tie
 
 ask-requires : tie.Need-ask-requires
-ask-requires c κs = search needs
+ask-requires c κs = search
 
 enum-known-tip : tie.Need-enum-known-tip
-enum-known-tip c = search needs
+enum-known-tip c = search
 
 get-requires : tie.Need-get-requires
-get-requires c κs = search needs
+get-requires c κs = search
 
 is-cut-requires : tie.Need-is-cut-requires
 is-cut-requires c κs =
@@ -26,10 +26,10 @@ is-cut-requires c κs =
     (q .slab, q .small, omega (arith, q .high, c .get .ensures))
 
 of-requires : tie.Need-of-requires
-of-requires c κs = search needs
+of-requires c κs = search
 
 same-length : tie.Need-same-length
-same-length c = search needs
+same-length c = search
 
 returns : tie.Need-returns
 returns c =
@@ -45,13 +45,13 @@ sub-put : tie.Need-sub-put
 sub-put c = let low = isCut-tip _ _ _ _ (sym (c .before .before .is-cut .ensures) ∙ not-false _ (c .before .if1 .left)) in search needs
 
 put-requires : tie.Need-put-requires
-put-requires c κs = search needs
+put-requires c κs = search
 
 enum-known-refusal : tie.Need-enum-known-refusal
-enum-known-refusal c = search needs
+enum-known-refusal c = search
 
 same-length-2 : tie.Need-same-length-2
-same-length-2 c = search needs
+same-length-2 c = search
 
 returns-2 : tie.Need-returns-2
 returns-2 c =
@@ -64,7 +64,7 @@ returns-2 c =
     (sym (r .0), (λ i. slabMemory (a .caps) (a .slot-marks .now) (a .batch .now) (c .before .before .put .ensures i)) ∙ sym (r .1))
 
 same-length-3 : tie.Need-same-length-3
-same-length-3 c = search needs
+same-length-3 c = search
 
 returns-3 : tie.Need-returns-3
 returns-3 c =

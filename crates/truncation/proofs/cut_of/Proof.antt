@@ -7,10 +7,10 @@ use Rattle.truncation.proofs.cut_of.Statement.{statement}
 use Rattle.truncation.proofs.cut_of.Tie as tie
 
 slab-size-requires : tie.Need-slab-size-requires
-slab-size-requires c κs = search needs
+slab-size-requires c κs = search
 
 sub-top : tie.Need-sub-top
-sub-top c = search needs
+sub-top c = search
 
 add-used : tie.Need-add-used
 add-used c = search needs

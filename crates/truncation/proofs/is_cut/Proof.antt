@@ -16,10 +16,10 @@ sub-top : tie.Need-sub-top
 sub-top c = search needs
 
 slab-size-requires : tie.Need-slab-size-requires
-slab-size-requires c κs = search needs
+slab-size-requires c κs = search
 
 larger-requires : tie.Need-larger-requires
-larger-requires c κs = search needs
+larger-requires c κs = search
 
 sparse-requires : tie.Need-sparse-requires
 sparse-requires c κs =

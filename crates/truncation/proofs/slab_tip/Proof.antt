@@ -22,13 +22,13 @@ add-get : tie.Need-add-get
 add-get c = search needs
 
 get-requires : tie.Need-get-requires
-get-requires c κs = search needs
+get-requires c κs = search
 
 add-get-2 : tie.Need-add-get-2
 add-get-2 c = search needs
 
 get-requires-2 : tie.Need-get-requires-2
-get-requires-2 c κs = search needs
+get-requires-2 c κs = search
 
 sub-tip : tie.Need-sub-tip
 sub-tip c = search needs
@@ -40,7 +40,7 @@ part-tip-end : tie.Need-part-tip-end
 part-tip-end c = let w = slab-within (c .before .before .before .before .args .slab) (c .before .before .before .before .args .slots) (c .before .before .before .before .pre .0) in omega arith
 
 tip-requires : tie.Need-tip-requires
-tip-requires c κs = search needs
+tip-requires c κs = search
 
 returns : tie.Need-returns
 returns c =

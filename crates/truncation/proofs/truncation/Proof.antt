@@ -3,7 +3,6 @@
 use mathlib.Core.Path.{sym, ap, _∙_}
 use mathlib.Core.Bool.{cond}
 use native.Mathlib.Omega.{arith}
-use borrow.Author.Needs.{needs}
 use Rattle.model.specs.Store.{keep}
 use Rattle.truncation.specs.Truncations.{slabMemory, askedAnswer, isCut, cutWith}
 use Rattle.truncation.proofs.Laws.{asked-tip, asked-refused, isCut-tip, truncation-answer, truncation-after, truncation-refused}
@@ -11,16 +10,16 @@ use Rattle.truncation.proofs.truncation.Statement.{statement}
 use Rattle.truncation.proofs.truncation.Tie as tie
 
 ask-requires : tie.Need-ask-requires
-ask-requires c κs = search needs
+ask-requires c κs = search
 
 enum-known-tip : tie.Need-enum-known-tip
-enum-known-tip c = search needs
+enum-known-tip c = search
 
 get-requires : tie.Need-get-requires
-get-requires c κs = search needs
+get-requires c κs = search
 
 raise-requires : tie.Need-raise-requires
-raise-requires c κs = search needs
+raise-requires c κs = search
 
 is-cut-requires : tie.Need-is-cut-requires
 is-cut-requires c κs =
@@ -35,7 +34,7 @@ cut-of-requires c κs =
     (q .slab, q .small, isCut-tip _ _ _ _ (sym (c .before .is-cut .ensures) ∙ c .if1 .taken))
 
 same-length : tie.Need-same-length
-same-length c = search needs
+same-length c = search
 
 returns : tie.Need-returns
 returns c =
@@ -49,10 +48,10 @@ returns c =
     )
 
 enum-known-refusal : tie.Need-enum-known-refusal
-enum-known-refusal c = search needs
+enum-known-refusal c = search
 
 same-length-2 : tie.Need-same-length-2
-same-length-2 c = search needs
+same-length-2 c = search
 
 returns-2 : tie.Need-returns-2
 returns-2 c =
@@ -66,7 +65,7 @@ returns-2 c =
     )
 
 same-length-3 : tie.Need-same-length-3
-same-length-3 c = search needs
+same-length-3 c = search
 
 returns-3 : tie.Need-returns-3
 returns-3 c =

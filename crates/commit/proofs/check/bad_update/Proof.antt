@@ -2,22 +2,21 @@
 use mathlib.Core.Path.{sym, _∙_}
 use native.Mathlib.Nat.{zero-add}
 use Rattle.commit.specs.Commit.{badUpdate}
-use borrow.Author.Needs.{needs}
 use Rattle.commit.proofs.check.bad_update.Statement.{statement}
 use Rattle.commit.proofs.check.bad_update.Tie as tie
 
 out-of-range-requires : tie.Need-out-of-range-requires
-out-of-range-requires c κs = search needs
+out-of-range-requires c κs = search
 
 returns : tie.Need-returns
 unfolding badUpdate
 returns c = simp (sym (c .before .out-of-range .ensures) ∙ c .if1 .taken)
 
 get-requires : tie.Need-get-requires
-get-requires c κs = search needs
+get-requires c κs = search
 
 bad-location-requires : tie.Need-bad-location-requires
-bad-location-requires c κs = search needs
+bad-location-requires c κs = search
 
 returns-2 : tie.Need-returns-2
 unfolding badUpdate

@@ -4,15 +4,14 @@ use mathlib.Core.Path.{sym, _∙_}
 use borrow.Author.Tests.{not-true, not-false}
 use Rattle.model.specs.Memory.{memoryOf}
 use Rattle.commit.proofs.Laws.{commit-shape, commit-count, commit-refused}
-use borrow.Author.Needs.{needs}
 use Rattle.commit.proofs.check.check.Statement.{statement}
 use Rattle.commit.proofs.check.check.Tie as tie
 
 all-fit-requires : tie.Need-all-fit-requires
-all-fit-requires c κs = search needs
+all-fit-requires c κs = search
 
 of-requires : tie.Need-of-requires
-of-requires c κs = search needs
+of-requires c κs = search
 
 returns : tie.Need-returns
 returns c =
@@ -21,16 +20,16 @@ returns c =
     simp (c .of .ensures, commit-shape m (sym (c .before .before .all-fit .ensures) ∙ not-true _ (c .before .if1 .taken)))
 
 opened-requires : tie.Need-opened-requires
-opened-requires c κs = search needs
+opened-requires c κs = search
 
 enum-known-n : tie.Need-enum-known-n
-enum-known-n c = search needs
+enum-known-n c = search
 
 check-rows-requires : tie.Need-check-rows-requires
-check-rows-requires c κs = search needs
+check-rows-requires c κs = search
 
 enum-known-refusal : tie.Need-enum-known-refusal
-enum-known-refusal c = search needs
+enum-known-refusal c = search
 
 returns-2 : tie.Need-returns-2
 returns-2 c =

@@ -2,13 +2,11 @@
 -- falls. Assumes nothing.
 use mathlib.Core.Path.{_≡_, _∙_}
 use native.Mathlib.Omega.{arith}
-use borrow.Author.Needs.{needs}
 use mathlib.Core.Bool.{true, false}
-use Prim.Native.Nat.{_+_, _-_, _≤_}
+use Prim.Native.Nat.{_-_, _≤_}
 use native.Mathlib.Nat.{sub-zero}
-use lib.ListN.{getD}
 use Rattle.kept.specs.Kept.{firstBad, rowsFrom}
-use Rattle.kept.proofs.Laws.{firstBad-here, firstBad-next, firstBad-none}
+use Rattle.kept.proofs.Laws.{row-read, firstBad-here, firstBad-next, firstBad-none}
 use Rattle.commit.specs.Commit.{rowBad}
 use Rattle.commit.proofs.check.check_rows.Statement.{statement}
 use Rattle.commit.proofs.check.check_rows.Tie as tie
@@ -26,23 +24,24 @@ loop-holds : tie.Need-loop-holds Inv-loop μ-loop
 loop-holds c = (omega arith, rw sub-zero)
 
 get-requires : tie.Need-get-requires Inv-loop μ-loop
-get-requires c κs = search needs
+get-requires c κs = search
 
 get-requires-2 : tie.Need-get-requires-2 Inv-loop μ-loop
-get-requires-2 c κs = search needs
+get-requires-2 c κs = search
 
 bad-update-requires : tie.Need-bad-update-requires Inv-loop μ-loop
-bad-update-requires c κs = search needs
+bad-update-requires c κs = search
 
 at-requires : tie.Need-at-requires Inv-loop μ-loop
-at-requires c κs = search needs
+at-requires c κs = search
 
 returns : tie.Need-returns Inv-loop μ-loop
 returns c =
     let a = c .before .before .before .before .before .before .before .before .before .before .before .before .args in
     let i = c .before .before .before .before .before .before .loop .i in
-    let bad : rowBad (a .caps .ids) (a .caps .slots) (a .locations .now) (a .slot-marks .now) (a .owners .now) (a .tallies .now) (getD (a .batch .now) (1 + i) 0, getD (a .batch .now) (257 + i) 0) ≡ true = cc in
-    simp (c .at .ensures, c .before .before .before .before .before .before .loop .inv .1, firstBad-here (rowBad (a .caps .ids) (a .caps .slots) (a .locations .now) (a .slot-marks .now) (a .owners .now) (a .tallies .now)) (a .batch .now) (a .n) i (c .before .before .before .before .before .loop-test .taken) bad)
+    let f = rowBad (a .caps .ids) (a .caps .slots) (a .locations .now) (a .slot-marks .now) (a .owners .now) (a .tallies .now) in
+    let bad = row-read f _ _ _ _ _ true (c .before .before .before .before .get .ensures) (c .before .before .before .get2 .ensures) (c .before .before .bad-update .ensures) (c .before .if1 .taken) in
+    simp (c .at .ensures, c .before .before .before .before .before .before .loop .inv .1, firstBad-here f (a .batch .now) (a .n) i (c .before .before .before .before .before .loop-test .taken) bad)
 
 add-i : tie.Need-add-i Inv-loop μ-loop
 add-i c = omega arith
@@ -54,8 +53,9 @@ loop-again : tie.Need-loop-again Inv-loop μ-loop
 loop-again c =
     let a = c .before .before .before .before .before .before .before .before .before .before .before .args in
     let i = c .before .before .before .before .before .loop .i in
-    let good : rowBad (a .caps .ids) (a .caps .slots) (a .locations .now) (a .slot-marks .now) (a .owners .now) (a .tallies .now) (getD (a .batch .now) (1 + i) 0, getD (a .batch .now) (257 + i) 0) ≡ false = cc in
-    (omega arith, c .before .before .before .before .before .loop .inv .1 ∙ firstBad-next (rowBad (a .caps .ids) (a .caps .slots) (a .locations .now) (a .slot-marks .now) (a .owners .now) (a .tallies .now)) (a .batch .now) (a .n) i (c .before .before .before .before .loop-test .taken) good)
+    let f = rowBad (a .caps .ids) (a .caps .slots) (a .locations .now) (a .slot-marks .now) (a .owners .now) (a .tallies .now) in
+    let good = row-read f _ _ _ _ _ false (c .before .before .before .get .ensures) (c .before .before .get2 .ensures) (c .before .bad-update .ensures) (c .if1 .left) in
+    (omega arith, c .before .before .before .before .before .loop .inv .1 ∙ firstBad-next f (a .batch .now) (a .n) i (c .before .before .before .before .loop-test .taken) good)
 
 returns-2 : tie.Need-returns-2 Inv-loop μ-loop
 returns-2 c =

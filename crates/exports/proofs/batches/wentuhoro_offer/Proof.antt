@@ -2,33 +2,32 @@ use mathlib.Core.Path.{ap, _∙_}
 use Rattle.model.specs.Memory.{memoryOf}
 use Rattle.offer.specs.Outcome.{Left, offerLeaves}
 use Rattle.exports.proofs.Laws.{offered-status, offer-memory}
-use borrow.Author.Needs.{needs}
 use Rattle.exports.proofs.batches.wentuhoro_offer.Statement.{statement}
 use Rattle.exports.proofs.batches.wentuhoro_offer.Tie as tie
 
 offer-requires : tie.Need-offer-requires
-offer-requires c κs = search needs
+offer-requires c κs = search
 
 enum-told : tie.Need-enum-told
-enum-told c = search needs
+enum-told c = search
 
 enum-known-r : tie.Need-enum-known-r
-enum-known-r c = search needs
+enum-known-r c = search
 
 status-requires : tie.Need-status-requires
-status-requires c κs = search needs
+status-requires c κs = search
 
 same-length : tie.Need-same-length
-same-length c = search needs
+same-length c = search
 
 same-length-2 : tie.Need-same-length-2
-same-length-2 c = search needs
+same-length-2 c = search
 
 same-length-3 : tie.Need-same-length-3
-same-length-3 c = search needs
+same-length-3 c = search
 
 same-length-4 : tie.Need-same-length-4
-same-length-4 c = search needs
+same-length-4 c = search
 
 returns : tie.Need-returns
 unfolding offerLeaves
@@ -39,16 +38,16 @@ returns c =
     (offered-status (c .before .before .before .before .before .before .before .before .before .before .offer .result) _ _ _ _ _ _ e (c .enum-told .given .1), (offer-memory m (a .update-ids .now) (a .stores .now) (a .lengths .now) (a .placed .now) _ _ _ (ap (λ (w : Left). w .slotMarks) e) (ap (λ (w : Left). w .batch) e) (ap (λ (w : Left). w .tallies) e), ap (λ (w : Left). w .placed) e))
 
 same-length-5 : tie.Need-same-length-5
-same-length-5 c = search needs
+same-length-5 c = search
 
 same-length-6 : tie.Need-same-length-6
-same-length-6 c = search needs
+same-length-6 c = search
 
 same-length-7 : tie.Need-same-length-7
-same-length-7 c = search needs
+same-length-7 c = search
 
 same-length-8 : tie.Need-same-length-8
-same-length-8 c = search needs
+same-length-8 c = search
 
 returns-2 : tie.Need-returns-2
 unfolding offerLeaves

@@ -11,19 +11,19 @@ returns : tie.Need-returns
 returns c = exported-short 1 (c .before .before .args .slab .now) _ (c .if1 .taken)
 
 slab-for-size-requires : tie.Need-slab-for-size-requires
-slab-for-size-requires c κs = search needs
+slab-for-size-requires c κs = search
 
 enum-known-k : tie.Need-enum-known-k
-enum-known-k c = search needs
+enum-known-k c = search
 
 slice-write-slab : tie.Need-slice-write-slab
 slice-write-slab c = search needs
 
 enum-known-r : tie.Need-enum-known-r
-enum-known-r c = search needs
+enum-known-r c = search
 
 status-requires : tie.Need-status-requires
-status-requires c κs = search needs
+status-requires c κs = search
 
 same-length : tie.Need-same-length
 same-length c = search needs

@@ -11,19 +11,19 @@ returns : tie.Need-returns
 returns c = exported-short 1 (c .before .before .before .args .leaf-fanout .now) _ (c .if1 .taken)
 
 deserialize-requires : tie.Need-deserialize-requires
-deserialize-requires c κs = search needs
+deserialize-requires c κs = search
 
 enum-known-found : tie.Need-enum-known-found
-enum-known-found c = search needs
+enum-known-found c = search
 
 slice-write-leaf-fanout : tie.Need-slice-write-leaf-fanout
 slice-write-leaf-fanout c = search needs
 
 enum-known-r : tie.Need-enum-known-r
-enum-known-r c = search needs
+enum-known-r c = search
 
 status-requires : tie.Need-status-requires
-status-requires c κs = search needs
+status-requires c κs = search
 
 same-length : tie.Need-same-length
 same-length c = search needs

@@ -2,21 +2,20 @@ use mathlib.Core.Path.{sym, ap, _∙_}
 use Rattle.exports.specs.Status.{statusOf}
 use Rattle.settings.specs.declared.Verified.{Verified}
 use Rattle.settings.specs.Outcomes.{verifiedOutcome}
-use borrow.Author.Needs.{needs}
 use Rattle.exports.proofs.leaves.wentuhoro_cookie_verify.Statement.{statement}
 use Rattle.exports.proofs.leaves.wentuhoro_cookie_verify.Tie as tie
 
 verify-requires : tie.Need-verify-requires
-verify-requires c κs = search needs
+verify-requires c κs = search
 
 enum-told : tie.Need-enum-told
-enum-told c = search needs
+enum-told c = search
 
 enum-known-r : tie.Need-enum-known-r
-enum-known-r c = search needs
+enum-known-r c = search
 
 status-requires : tie.Need-status-requires
-status-requires c κs = search needs
+status-requires c κs = search
 
 returns : tie.Need-returns
 returns c = sym (ap (λ (x : Verified). statusOf (verifiedOutcome x)) (sym (c .before .before .verify .ensures) ∙ c .enum-told .given .1))

@@ -2,7 +2,6 @@ use mathlib.Core.Path.{sym, ap, _∙_}
 use Rattle.fragmentation.specs.declared.Cutoff.{Cutoff}
 use Rattle.exports.specs.Status.{statusOf, valuesIn, cutoffInTwo}
 use Rattle.exports.proofs.Laws.{exported-short, exported-is}
-use borrow.Author.Needs.{needs}
 use Rattle.exports.proofs.leaves.wentuhoro_fragmentation_cutoff.Statement.{statement}
 use Rattle.exports.proofs.leaves.wentuhoro_fragmentation_cutoff.Tie as tie
 
@@ -11,28 +10,28 @@ returns c =
     exported-short 2 (c .before .before .args .cutoff .now) _ (c .if1 .taken)
 
 fragmentation-cutoff-requires : tie.Need-fragmentation-cutoff-requires
-fragmentation-cutoff-requires c κs = search needs
+fragmentation-cutoff-requires c κs = search
 
 enum-known-slot : tie.Need-enum-known-slot
-enum-known-slot c = search needs
+enum-known-slot c = search
 
 two-requires : tie.Need-two-requires
-two-requires c κs = search needs
+two-requires c κs = search
 
 enum-told : tie.Need-enum-told
-enum-told c = search needs
+enum-told c = search
 
 two-requires-2 : tie.Need-two-requires-2
-two-requires-2 c κs = search needs
+two-requires-2 c κs = search
 
 enum-known-r : tie.Need-enum-known-r
-enum-known-r c = search needs
+enum-known-r c = search
 
 status-requires : tie.Need-status-requires
-status-requires c κs = search needs
+status-requires c κs = search
 
 same-length : tie.Need-same-length
-same-length c = search needs
+same-length c = search
 
 returns-2 : tie.Need-returns-2
 returns-2 c =
@@ -42,7 +41,7 @@ returns-2 c =
     (ap (λ (x : Cutoff). valuesIn (cutoffInTwo x) lent) e ∙ sym (c .before .before .two .ensures))
 
 same-length-2 : tie.Need-same-length-2
-same-length-2 c = search needs
+same-length-2 c = search
 
 returns-3 : tie.Need-returns-3
 returns-3 c =

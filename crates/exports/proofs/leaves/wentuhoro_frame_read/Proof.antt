@@ -11,19 +11,19 @@ returns : tie.Need-returns
 returns c = exported-short 1 (c .before .before .before .args .length .now) _ (c .if1 .taken)
 
 verdict-requires : tie.Need-verdict-requires
-verdict-requires c κs = search needs
+verdict-requires c κs = search
 
 enum-known-n : tie.Need-enum-known-n
-enum-known-n c = search needs
+enum-known-n c = search
 
 slice-write-length : tie.Need-slice-write-length
 slice-write-length c = search needs
 
 enum-known-r : tie.Need-enum-known-r
-enum-known-r c = search needs
+enum-known-r c = search
 
 status-requires : tie.Need-status-requires
-status-requires c κs = search needs
+status-requires c κs = search
 
 same-length : tie.Need-same-length
 same-length c = search needs

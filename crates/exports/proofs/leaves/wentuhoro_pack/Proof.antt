@@ -11,19 +11,19 @@ returns : tie.Need-returns
 returns c = exported-short 1 (c .before .before .args .location .now) _ (c .if1 .taken)
 
 pack-requires : tie.Need-pack-requires
-pack-requires c κs = search needs
+pack-requires c κs = search
 
 enum-known-l : tie.Need-enum-known-l
-enum-known-l c = search needs
+enum-known-l c = search
 
 slice-write-location : tie.Need-slice-write-location
 slice-write-location c = search needs
 
 enum-known-r : tie.Need-enum-known-r
-enum-known-r c = search needs
+enum-known-r c = search
 
 status-requires : tie.Need-status-requires
-status-requires c κs = search needs
+status-requires c κs = search
 
 same-length : tie.Need-same-length
 same-length c = search needs

@@ -2,7 +2,6 @@ use mathlib.Core.Path.{sym, ap, _∙_}
 use Rattle.address.specs.declared.Unpacked.{Unpacked}
 use Rattle.exports.specs.Status.{statusOf, valuesIn, unpackedInThree}
 use Rattle.exports.proofs.Laws.{exported-short, exported-is}
-use borrow.Author.Needs.{needs}
 use Rattle.exports.proofs.leaves.wentuhoro_unpack.Statement.{statement}
 use Rattle.exports.proofs.leaves.wentuhoro_unpack.Tie as tie
 
@@ -11,28 +10,28 @@ returns c =
     exported-short 3 (c .before .before .args .address .now) _ (c .if1 .taken)
 
 unpack-requires : tie.Need-unpack-requires
-unpack-requires c κs = search needs
+unpack-requires c κs = search
 
 enum-known-a : tie.Need-enum-known-a
-enum-known-a c = search needs
+enum-known-a c = search
 
 three-requires : tie.Need-three-requires
-three-requires c κs = search needs
+three-requires c κs = search
 
 enum-told : tie.Need-enum-told
-enum-told c = search needs
+enum-told c = search
 
 three-requires-2 : tie.Need-three-requires-2
-three-requires-2 c κs = search needs
+three-requires-2 c κs = search
 
 enum-known-r : tie.Need-enum-known-r
-enum-known-r c = search needs
+enum-known-r c = search
 
 status-requires : tie.Need-status-requires
-status-requires c κs = search needs
+status-requires c κs = search
 
 same-length : tie.Need-same-length
-same-length c = search needs
+same-length c = search
 
 returns-2 : tie.Need-returns-2
 returns-2 c =
@@ -42,7 +41,7 @@ returns-2 c =
     (ap (λ (x : Unpacked). valuesIn (unpackedInThree x) lent) e ∙ sym (c .before .before .three .ensures))
 
 same-length-2 : tie.Need-same-length-2
-same-length-2 c = search needs
+same-length-2 c = search
 
 returns-3 : tie.Need-returns-3
 returns-3 c =

@@ -1,24 +1,23 @@
 use mathlib.Core.Path.{_∙_}
 use Rattle.truncation.specs.Truncations.{reportedAnswer}
 use Rattle.exports.proofs.Laws.{told-status}
-use borrow.Author.Needs.{needs}
 use Rattle.exports.proofs.night.wentuhoro_cut_done.Statement.{statement}
 use Rattle.exports.proofs.night.wentuhoro_cut_done.Tie as tie
 
 cut-done-requires : tie.Need-cut-done-requires
-cut-done-requires c κs = search needs
+cut-done-requires c κs = search
 
 enum-told : tie.Need-enum-told
-enum-told c = search needs
+enum-told c = search
 
 enum-known-r : tie.Need-enum-known-r
-enum-known-r c = search needs
+enum-known-r c = search
 
 status-requires : tie.Need-status-requires
-status-requires c κs = search needs
+status-requires c κs = search
 
 same-length : tie.Need-same-length
-same-length c = search needs
+same-length c = search
 
 returns : tie.Need-returns
 returns c =
@@ -26,7 +25,7 @@ returns c =
     (told-status reportedAnswer _ _ _ (e .0) (c .enum-told .given .1), e .1)
 
 same-length-2 : tie.Need-same-length-2
-same-length-2 c = search needs
+same-length-2 c = search
 
 returns-2 : tie.Need-returns-2
 returns-2 c =

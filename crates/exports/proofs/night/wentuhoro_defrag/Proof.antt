@@ -14,25 +14,25 @@ returns c =
     (exported-short 1 lent _ (c .if1 .taken), (whereFits-short 1 lent _ _ (c .if1 .taken), whereFits-short 1 lent _ _ (c .if1 .taken)))
 
 objects-to-defrag-requires : tie.Need-objects-to-defrag-requires
-objects-to-defrag-requires c κs = search needs
+objects-to-defrag-requires c κs = search
 
 enum-known-rows : tie.Need-enum-known-rows
-enum-known-rows c = search needs
+enum-known-rows c = search
 
 slice-write-count : tie.Need-slice-write-count
 slice-write-count c = search needs
 
 enum-known-r : tie.Need-enum-known-r
-enum-known-r c = search needs
+enum-known-r c = search
 
 status-requires : tie.Need-status-requires
-status-requires c κs = search needs
+status-requires c κs = search
 
 same-length : tie.Need-same-length
-same-length c = search needs
+same-length c = search
 
 same-length-2 : tie.Need-same-length-2
-same-length-2 c = search needs
+same-length-2 c = search
 
 same-length-3 : tie.Need-same-length-3
 same-length-3 c = search needs
@@ -48,10 +48,10 @@ returns-2 c =
     )
 
 same-length-4 : tie.Need-same-length-4
-same-length-4 c = search needs
+same-length-4 c = search
 
 same-length-5 : tie.Need-same-length-5
-same-length-5 c = search needs
+same-length-5 c = search
 
 returns-3 : tie.Need-returns-3
 returns-3 c =

@@ -1,7 +1,6 @@
 use mathlib.Core.Path.{refl, sym, _∙_}
 use Rattle.truncation.specs.Truncations.{truncatedAnswer}
 use Rattle.exports.proofs.Laws.{exported-short, told-exported, whereFits-fits, whereFits-short}
-use borrow.Author.Needs.{needs}
 use Rattle.exports.proofs.night.wentuhoro_truncation.Statement.{statement}
 use Rattle.exports.proofs.night.wentuhoro_truncation.Tie as tie
 
@@ -11,31 +10,31 @@ returns c =
     (exported-short 3 lent _ (c .if1 .taken), whereFits-short 3 lent _ _ (c .if1 .taken))
 
 truncation-requires : tie.Need-truncation-requires
-truncation-requires c κs = search needs
+truncation-requires c κs = search
 
 enum-known-length : tie.Need-enum-known-length
-enum-known-length c = search needs
+enum-known-length c = search
 
 three-requires : tie.Need-three-requires
-three-requires c κs = search needs
+three-requires c κs = search
 
 enum-told : tie.Need-enum-told
-enum-told c = search needs
+enum-told c = search
 
 three-requires-2 : tie.Need-three-requires-2
-three-requires-2 c κs = search needs
+three-requires-2 c κs = search
 
 enum-known-r : tie.Need-enum-known-r
-enum-known-r c = search needs
+enum-known-r c = search
 
 status-requires : tie.Need-status-requires
-status-requires c κs = search needs
+status-requires c κs = search
 
 same-length : tie.Need-same-length
-same-length c = search needs
+same-length c = search
 
 same-length-2 : tie.Need-same-length-2
-same-length-2 c = search needs
+same-length-2 c = search
 
 returns-2 : tie.Need-returns-2
 returns-2 c =
@@ -45,10 +44,10 @@ returns-2 c =
     (told-exported truncatedAnswer _ _ _ (e .0) (c .before .before .before .before .before .length .given .1) 3 lent _ _ h refl (sym (c .before .before .three .ensures)), e .1 ∙ whereFits-fits 3 lent _ _ h)
 
 same-length-3 : tie.Need-same-length-3
-same-length-3 c = search needs
+same-length-3 c = search
 
 same-length-4 : tie.Need-same-length-4
-same-length-4 c = search needs
+same-length-4 c = search
 
 returns-3 : tie.Need-returns-3
 returns-3 c =
@@ -58,7 +57,7 @@ returns-3 c =
     (told-exported truncatedAnswer _ _ _ (e .0) (c .before .before .before .before .enum-told .given .1) 3 lent _ _ h refl (sym (c .before .before .three2 .ensures)), e .1 ∙ whereFits-fits 3 lent _ _ h)
 
 same-length-5 : tie.Need-same-length-5
-same-length-5 c = search needs
+same-length-5 c = search
 
 returns-4 : tie.Need-returns-4
 returns-4 c =

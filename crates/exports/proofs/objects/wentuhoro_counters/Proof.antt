@@ -1,27 +1,26 @@
 use mathlib.Core.Path.{_∙_}
 use Rattle.object_ids.specs.Counts.{countersAnswer}
 use Rattle.exports.proofs.Laws.{told-status}
-use borrow.Author.Needs.{needs}
 use Rattle.exports.proofs.objects.wentuhoro_counters.Statement.{statement}
 use Rattle.exports.proofs.objects.wentuhoro_counters.Tie as tie
 
 counters-requires : tie.Need-counters-requires
-counters-requires c κs = search needs
+counters-requires c κs = search
 
 enum-told : tie.Need-enum-told
-enum-told c = search needs
+enum-told c = search
 
 enum-known-r : tie.Need-enum-known-r
-enum-known-r c = search needs
+enum-known-r c = search
 
 status-requires : tie.Need-status-requires
-status-requires c κs = search needs
+status-requires c κs = search
 
 same-length : tie.Need-same-length
-same-length c = search needs
+same-length c = search
 
 same-length-2 : tie.Need-same-length-2
-same-length-2 c = search needs
+same-length-2 c = search
 
 returns : tie.Need-returns
 returns c =
@@ -29,10 +28,10 @@ returns c =
     (told-status (countersAnswer _ _) _ _ _ (e .0) (c .enum-told .given .1), e .1)
 
 same-length-3 : tie.Need-same-length-3
-same-length-3 c = search needs
+same-length-3 c = search
 
 same-length-4 : tie.Need-same-length-4
-same-length-4 c = search needs
+same-length-4 c = search
 
 returns-2 : tie.Need-returns-2
 returns-2 c =

@@ -11,19 +11,19 @@ returns c =
     exported-short 1 lent _ (c .if1 .taken)
 
 get-location-for-object-requires : tie.Need-get-location-for-object-requires
-get-location-for-object-requires c κs = search needs
+get-location-for-object-requires c κs = search
 
 enum-known-l : tie.Need-enum-known-l
-enum-known-l c = search needs
+enum-known-l c = search
 
 slice-write-location : tie.Need-slice-write-location
 slice-write-location c = search needs
 
 enum-known-r : tie.Need-enum-known-r
-enum-known-r c = search needs
+enum-known-r c = search
 
 status-requires : tie.Need-status-requires
-status-requires c κs = search needs
+status-requires c κs = search
 
 same-length : tie.Need-same-length
 same-length c = search needs

@@ -11,25 +11,25 @@ returns c =
     (exported-short 1 lent _ (c .if1 .taken), whereFits-short 1 lent _ _ (c .if1 .taken))
 
 allocate-object-id-requires : tie.Need-allocate-object-id-requires
-allocate-object-id-requires c κs = search needs
+allocate-object-id-requires c κs = search
 
 enum-known-found : tie.Need-enum-known-found
-enum-known-found c = search needs
+enum-known-found c = search
 
 slice-write-id : tie.Need-slice-write-id
 slice-write-id c = search needs
 
 enum-known-r : tie.Need-enum-known-r
-enum-known-r c = search needs
+enum-known-r c = search
 
 status-requires : tie.Need-status-requires
-status-requires c κs = search needs
+status-requires c κs = search
 
 same-length : tie.Need-same-length
-same-length c = search needs
+same-length c = search
 
 same-length-2 : tie.Need-same-length-2
-same-length-2 c = search needs
+same-length-2 c = search
 
 same-length-3 : tie.Need-same-length-3
 same-length-3 c = search needs
@@ -42,10 +42,10 @@ returns-2 c =
     (told-exported newIdAnswer _ _ _ (e .0) (c .before .found .given .1) 1 lent _ _ h refl (one-word lent _ h), e .1 ∙ whereFits-fits 1 lent _ _ h)
 
 same-length-4 : tie.Need-same-length-4
-same-length-4 c = search needs
+same-length-4 c = search
 
 same-length-5 : tie.Need-same-length-5
-same-length-5 c = search needs
+same-length-5 c = search
 
 returns-3 : tie.Need-returns-3
 returns-3 c =

@@ -1,7 +1,6 @@
 use mathlib.Core.Path.{refl, sym}
 use Rattle.object_ids.specs.Counts.{statsAnswer}
 use Rattle.exports.proofs.Laws.{exported-short, told-exported}
-use borrow.Author.Needs.{needs}
 use Rattle.exports.proofs.objects.wentuhoro_stats.Statement.{statement}
 use Rattle.exports.proofs.objects.wentuhoro_stats.Tie as tie
 
@@ -11,22 +10,22 @@ returns c =
     exported-short 4 lent _ (c .if1 .taken)
 
 stats-requires : tie.Need-stats-requires
-stats-requires c κs = search needs
+stats-requires c κs = search
 
 enum-known-stats : tie.Need-enum-known-stats
-enum-known-stats c = search needs
+enum-known-stats c = search
 
 four-requires : tie.Need-four-requires
-four-requires c κs = search needs
+four-requires c κs = search
 
 enum-known-r : tie.Need-enum-known-r
-enum-known-r c = search needs
+enum-known-r c = search
 
 status-requires : tie.Need-status-requires
-status-requires c κs = search needs
+status-requires c κs = search
 
 same-length : tie.Need-same-length
-same-length c = search needs
+same-length c = search
 
 returns-2 : tie.Need-returns-2
 returns-2 c =

@@ -7,7 +7,7 @@ use mathlib.Core.Path.{_≡_, sym, _∙_}
 use native.Mathlib.Omega.{arith}
 use Rattle.sizes.proofs.Laws.{isSlabSize-least}
 use Rattle.frame.specs.Frame.{storedLength, verdictOf}
-use Rattle.frame.proofs.Laws.{storedLength-field}
+use Rattle.frame.proofs.Laws.{stored-read}
 use borrow.Author.Needs.{needs}
 use Rattle.frame.proofs.Slab.verdict.Statement.{statement}
 use Rattle.frame.proofs.Slab.verdict.Tie as tie
@@ -50,7 +50,7 @@ unfolding verdictOf
 returns-3 c =
     let slot = c .before .before .before .before .before .before .before .before .before .args .slot .now in
     let slab = sym (c .before .before .before .before .before .before .before .is-slab-size .ensures) ∙ not-false _ (c .before .before .before .before .before .before .if1 .left) in
-    let stored : c .before .before .get-at .result ≡ storedLength slot = cc (storedLength-field slot slab) in
+    let stored = stored-read slot _ (c .before .before .get-at .result) slab (c .before .before .before .room-of .ensures) (c .before .before .get-at .ensures) in
     let long : ltb (room (length slot)) (storedLength slot) ≡ true = rw (← stored, ← c .before .before .before .room-of .ensures) (lt-ltb _ _ (c .before .if3 .taken)) in
     simp (slab, sym (c .before .before .before .before .before .agrees .ensures) ∙ not-false _ (c .before .before .before .before .if2 .left), long, c .of3 .ensures)
 
@@ -59,7 +59,7 @@ unfolding verdictOf
 returns-4 c =
     let slot = c .before .before .before .before .before .before .before .before .args .slot .now in
     let slab = sym (c .before .before .before .before .before .before .is-slab-size .ensures) ∙ not-false _ (c .before .before .before .before .before .if1 .left) in
-    let stored : c .before .get-at .result ≡ storedLength slot = cc (storedLength-field slot slab) in
+    let stored = stored-read slot _ (c .before .get-at .result) slab (c .before .before .room-of .ensures) (c .before .get-at .ensures) in
     let short : ltb (room (length slot)) (storedLength slot) ≡ false = rw (← stored, ← c .before .before .room-of .ensures) (le-ltb _ _ (c .if3 .left)) in
     simp (slab, sym (c .before .before .before .before .agrees .ensures) ∙ not-false _ (c .before .before .before .if2 .left), short, stored)
 

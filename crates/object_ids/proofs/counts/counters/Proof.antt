@@ -2,7 +2,6 @@
 -- Assumes nothing.
 use mathlib.Core.Path.{sym, ap, _∙_}
 use native.Mathlib.Omega.{arith}
-use borrow.Author.Needs.{needs}
 use Rattle.object_ids.specs.declared.counts.Counted.the-variants as C
 use Rattle.object_ids.specs.Counts.{countersAnswer, statsAnswer, grantedIn, freedIn}
 use Rattle.object_ids.proofs.LawsCounts.{counters-length, listed-first, listed-second, listed-both}
@@ -10,7 +9,7 @@ use Rattle.object_ids.proofs.counts.counters.Statement.{statement}
 use Rattle.object_ids.proofs.counts.counters.Tie as tie
 
 of-requires : tie.Need-of-requires
-of-requires c κs = search needs
+of-requires c κs = search
 
 returns : tie.Need-returns
 returns c =
@@ -20,7 +19,7 @@ returns c =
     ((λ i. countersAnswer g f (C.Refused (c .of .ensures i))) ∙ r, (ap (λ a. grantedIn a g) r, ap (λ a. freedIn a f) r))
 
 of-requires-2 : tie.Need-of-requires-2
-of-requires-2 c κs = search needs
+of-requires-2 c κs = search
 
 returns-2 : tie.Need-returns-2
 returns-2 c =
@@ -30,10 +29,10 @@ returns-2 c =
     ((λ i. countersAnswer g f (C.Refused (c .of2 .ensures i))) ∙ r, (ap (λ a. grantedIn a g) r, ap (λ a. freedIn a f) r))
 
 stats-requires : tie.Need-stats-requires
-stats-requires c κs = search needs
+stats-requires c κs = search
 
 enum-known-stats : tie.Need-enum-known-stats
-enum-known-stats c = search needs
+enum-known-stats c = search
 
 copy-words-requires : tie.Need-copy-words-requires
 copy-words-requires c κs =
@@ -46,13 +45,13 @@ copy-words-requires-2 c κs =
     (omega arith, c .before .before .before .before .before .before .before .before .before .if2 .left)
 
 enum-known-refusal : tie.Need-enum-known-refusal
-enum-known-refusal c = search needs
+enum-known-refusal c = search
 
 same-length : tie.Need-same-length
-same-length c = search needs
+same-length c = search
 
 same-length-2 : tie.Need-same-length-2
-same-length-2 c = search needs
+same-length-2 c = search
 
 returns-3 : tie.Need-returns-3
 returns-3 c =

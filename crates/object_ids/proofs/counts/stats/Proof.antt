@@ -2,27 +2,26 @@
 use mathlib.Core.Path.{sym, _∙_}
 use native.Mathlib.Omega.{arith}
 use borrow.Author.Tests.{not-true, not-false}
-use borrow.Author.Needs.{needs}
 use Rattle.model.specs.Verdict.{test}
 use Rattle.object_ids.proofs.LawsCounts.{counters-answer, talliesFits-length}
 use Rattle.object_ids.proofs.counts.stats.Statement.{statement}
 use Rattle.object_ids.proofs.counts.stats.Tie as tie
 
 tallies-fit-requires : tie.Need-tallies-fit-requires
-tallies-fit-requires c κs = search needs
+tallies-fit-requires c κs = search
 
 of-requires : tie.Need-of-requires
-of-requires c κs = search needs
+of-requires c κs = search
 
 returns : tie.Need-returns
 unfolding test
 returns c = rw counters-answer (simp (c .of .ensures, sym (c .before .before .tallies-fit .ensures) ∙ not-true _ (c .before .if1 .taken)))
 
 get-requires : tie.Need-get-requires
-get-requires c κs = search needs
+get-requires c κs = search
 
 get-requires-2 : tie.Need-get-requires-2
-get-requires-2 c κs = search needs
+get-requires-2 c κs = search
 
 slots-sum-requires : tie.Need-slots-sum-requires
 slots-sum-requires c κs = let l = talliesFits-length _ _ _ (sym (c .before .before .before .tallies-fit .ensures) ∙ not-false _ (c .before .before .if1 .left)) in omega arith

@@ -1,7 +1,6 @@
 -- `object_ids::allocate_object_id` meets its contract: `next_id` gives the answer, which tells whether the call is granted (newId-granted)
 -- or writes nothing (refused-after). Assumes nothing.
 use mathlib.Core.Path.{refl, sym, ap, _∙_}
-use borrow.Author.Needs.{needs}
 use Rattle.calls.proofs.Calls.{refused-after}
 use Rattle.object_ids.specs.NewIds.{newIdMemory, newIdAnswer}
 use Rattle.object_ids.proofs.LawsNewId.{newId-granted}
@@ -9,10 +8,10 @@ use Rattle.object_ids.proofs.new_id.allocate_object_id.Statement.{state
 use Rattle.object_ids.proofs.new_id.allocate_object_id.Tie as tie
 
 next-id-requires : tie.Need-next-id-requires
-next-id-requires c κs = search needs
+next-id-requires c κs = search
 
 enum-known-id : tie.Need-enum-known-id
-enum-known-id c = search needs
+enum-known-id c = search
 
 hold-id-requires : tie.Need-hold-id-requires
 hold-id-requires c κs =
@@ -20,13 +19,13 @@ hold-id-requires c κs =
     (q .some, q .small)
 
 enum-known-refusal : tie.Need-enum-known-refusal
-enum-known-refusal c = search needs
+enum-known-refusal c = search
 
 same-length : tie.Need-same-length
-same-length c = search needs
+same-length c = search
 
 same-length-2 : tie.Need-same-length-2
-same-length-2 c = search needs
+same-length-2 c = search
 
 returns : tie.Need-returns
 returns c =
@@ -36,10 +35,10 @@ returns c =
     (e, (λ i. newIdMemory (a .caps) (c .before .before .before .before .hold-id .ensures .0 i) (a .batch .now) (c .before .before .before .before .hold-id .ensures .1 i)) ∙ sym (q .after))
 
 same-length-3 : tie.Need-same-length-3
-same-length-3 c = search needs
+same-length-3 c = search
 
 same-length-4 : tie.Need-same-length-4
-same-length-4 c = search needs
+same-length-4 c = search
 
 returns-2 : tie.Need-returns-2
 returns-2 c =

@@ -1,12 +1,11 @@
 -- `object_ids::held` meets its contract. Assumes nothing.
 use mathlib.Core.Path.{sym}
-use borrow.Author.Needs.{needs}
 use Rattle.id_allocator.proofs.LawsHinted.{hold-busy}
 use Rattle.object_ids.proofs.new_id.held.Statement.{statement}
 use Rattle.object_ids.proofs.new_id.held.Tie as tie
 
 returns : tie.Need-returns
-returns c = search needs
+returns c = search
 
 returns-2 : tie.Need-returns-2
 returns-2 c = sym (hold-busy _ (c .if1 .left))

@@ -5,7 +5,6 @@ use Prim.Native.Nat.{_<_, _≤_}
 use native.Mathlib.Omega.{arith}
 use lib.ListN.{getD}
 use borrow.Author.Tests.{not-true, not-false, lt-ltb, le-ltb, le-leb, lt-leb}
-use borrow.Author.Needs.{needs}
 use Rattle.marks.specs.Marks.{smallestFree}
 use Rattle.id_allocator.specs.Counted.{hinted}
 use Rattle.model.specs.Verdict.{_⨾_, test}
@@ -14,20 +13,20 @@ use Rattle.object_ids.proofs.new_id.next_id.Statement.{statement}
 use Rattle.object_ids.proofs.new_id.next_id.Tie as tie
 
 new-id-fits-requires : tie.Need-new-id-fits-requires
-new-id-fits-requires c κs = search needs
+new-id-fits-requires c κs = search
 
 of-requires : tie.Need-of-requires
-of-requires c κs = search needs
+of-requires c κs = search
 
 returns : tie.Need-returns
 unfolding test _⨾_
 returns c = simp (c .of .ensures, newId-answer, sym (c .before .before .new-id-fits .ensures) ∙ not-true _ (c .before .if1 .taken))
 
 get-requires : tie.Need-get-requires
-get-requires c κs = search needs
+get-requires c κs = search
 
 of-requires-2 : tie.Need-of-requires-2
-of-requires-2 c κs = search needs
+of-requires-2 c κs = search
 
 returns-2 : tie.Need-returns-2
 unfolding test _⨾_
@@ -37,13 +36,13 @@ returns-2 c =
     simp (c .of2 .ensures, newId-answer, sym (c .before .before .before .before .new-id-fits .ensures) ∙ not-false _ (c .before .before .before .if1 .left), lt-ltb _ _ kept)
 
 get-requires-2 : tie.Need-get-requires-2
-get-requires-2 c κs = search needs
+get-requires-2 c κs = search
 
 smallest-free-requires : tie.Need-smallest-free-requires
-smallest-free-requires c κs = search needs
+smallest-free-requires c κs = search
 
 of-requires-3 : tie.Need-of-requires-3
-of-requires-3 c κs = search needs
+of-requires-3 c κs = search
 
 returns-3 : tie.Need-returns-3
 unfolding test _⨾_

@@ -25,10 +25,10 @@ mul-put : tie.Need-mul-put Inv-loop μ-loop
 mul-put c = search needs
 
 shared-slice-read-put : tie.Need-shared-slice-read-put Inv-loop μ-loop
-shared-slice-read-put c = search needs
+shared-slice-read-put c = search
 
 put-requires : tie.Need-put-requires Inv-loop μ-loop
-put-requires c κs = search needs
+put-requires c κs = search
 
 add-i : tie.Need-add-i Inv-loop μ-loop
 add-i c = search needs

@@ -1,20 +1,19 @@
 -- `offer::places::keep` meets its contract: three writes, one after the other. Assumes nothing.
-use borrow.Author.Needs.{needs}
 use Rattle.offer.proofs.LawsPlaces.{kept-is}
 use Rattle.offer.proofs.places.keep.Statement.{statement}
 use Rattle.offer.proofs.places.keep.Tie as tie
 
 copy-requires : tie.Need-copy-requires
-copy-requires c κs = search needs
+copy-requires c κs = search
 
 copy-requires-2 : tie.Need-copy-requires-2
-copy-requires-2 c κs = search needs
+copy-requires-2 c κs = search
 
 put-requires : tie.Need-put-requires
-put-requires c κs = search needs
+put-requires c κs = search
 
 same-length : tie.Need-same-length
-same-length c = search needs
+same-length c = search
 
 returns : tie.Need-returns
 returns c =

@@ -25,10 +25,10 @@ mul-spot : tie.Need-mul-spot Inv-loop μ-loop
 mul-spot c = search needs
 
 shared-slice-read-spot : tie.Need-shared-slice-read-spot Inv-loop μ-loop
-shared-slice-read-spot c = search needs
+shared-slice-read-spot c = search
 
 spot-requires : tie.Need-spot-requires Inv-loop μ-loop
-spot-requires c κs = search needs
+spot-requires c κs = search
 
 take-slot-requires : tie.Need-take-slot-requires Inv-loop μ-loop
 take-slot-requires c κs =
@@ -37,7 +37,7 @@ take-slot-requires c κs =
     λ h. spotIn-good (a .slots) (slotsIn (l .slot-marks) (l .tallies)) (getD (a .slabs .now) (l .i) 0) (ap (isLocation (a .slots)) (sym (c .before .before .spot .ensures)) ∙ h)
 
 put-requires : tie.Need-put-requires Inv-loop μ-loop
-put-requires c κs = search needs
+put-requires c κs = search
 
 add-i : tie.Need-add-i Inv-loop μ-loop
 add-i c = search needs
@@ -59,13 +59,13 @@ loop-again c =
     )
 
 same-length : tie.Need-same-length Inv-loop μ-loop
-same-length c = search needs
+same-length c = search
 
 same-length-2 : tie.Need-same-length-2 Inv-loop μ-loop
-same-length-2 c = search needs
+same-length-2 c = search
 
 same-length-3 : tie.Need-same-length-3 Inv-loop μ-loop
-same-length-3 c = search needs
+same-length-3 c = search
 
 returns : tie.Need-returns Inv-loop μ-loop
 returns c =

@@ -13,22 +13,22 @@ add-get : tie.Need-add-get
 add-get c = search needs
 
 get-requires : tie.Need-get-requires
-get-requires c κs = search needs
+get-requires c κs = search
 
 slab-marks-requires : tie.Need-slab-marks-requires
-slab-marks-requires c κs = search needs
+slab-marks-requires c κs = search
 
 smallest-free-requires : tie.Need-smallest-free-requires
-smallest-free-requires c κs = search needs
+smallest-free-requires c κs = search
 
 pack-requires : tie.Need-pack-requires
-pack-requires c κs = search needs
+pack-requires c κs = search
 
 enum-known-location : tie.Need-enum-known-location
-enum-known-location c = search needs
+enum-known-location c = search
 
 enum-told : tie.Need-enum-told
-enum-told c = search needs
+enum-told c = search
 
 returns-2 : tie.Need-returns-2
 returns-2 c = sym (spotIn-at _ _ _ _ _ _ _ (c .before .before .before .before .before .before .if1 .left) (c .before .before .before .before .before .get .ensures) (c .before .before .before .before .slab-marks .ensures) (c .before .before .before .smallest-free .ensures) (c .before .before .pack .ensures) ∙ ap locationIn (c .enum-told .given .1))

@@ -24,7 +24,7 @@ loop-holds : tie.Need-loop-holds Inv-loop μ-loop
 loop-holds c = (search needs, refl)
 
 smallest-free-requires : tie.Need-smallest-free-requires Inv-loop μ-loop
-smallest-free-requires c κs = search needs
+smallest-free-requires c κs = search
 
 returns : tie.Need-returns Inv-loop μ-loop
 returns c =
@@ -37,7 +37,7 @@ add-from : tie.Need-add-from Inv-loop μ-loop
 add-from c = search needs
 
 sub-left : tie.Need-sub-left Inv-loop μ-loop
-sub-left c = search needs
+sub-left c = search
 
 loop-less : tie.Need-loop-less Inv-loop μ-loop
 loop-less c = search needs

@@ -20,13 +20,13 @@ loop-holds : tie.Need-loop-holds Inv-loop μ-loop
 loop-holds c = (search needs, refl)
 
 get-requires : tie.Need-get-requires Inv-loop μ-loop
-get-requires c κs = search needs
+get-requires c κs = search
 
 slab-lacks-requires : tie.Need-slab-lacks-requires Inv-loop μ-loop
-slab-lacks-requires c κs = search needs
+slab-lacks-requires c κs = search
 
 at-requires : tie.Need-at-requires Inv-loop μ-loop
-at-requires c κs = search needs
+at-requires c κs = search
 
 returns : tie.Need-returns Inv-loop μ-loop
 returns c =

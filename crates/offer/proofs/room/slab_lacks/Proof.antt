@@ -19,13 +19,13 @@ add-get : tie.Need-add-get
 add-get c = search needs
 
 get-requires : tie.Need-get-requires
-get-requires c κs = search needs
+get-requires c κs = search
 
 slab-marks-requires : tie.Need-slab-marks-requires
-slab-marks-requires c κs = search needs
+slab-marks-requires c κs = search
 
 lacks-requires : tie.Need-lacks-requires
-lacks-requires c κs = search needs
+lacks-requires c κs = search
 
 returns-2 : tie.Need-returns-2
 unfolding freeIn

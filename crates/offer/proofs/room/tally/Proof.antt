@@ -20,16 +20,16 @@ unfolding noneAsked
 loop-holds c = (search needs, search needs, refl)
 
 slice-aggregate-add : tie.Need-slice-aggregate-add Inv-loop μ-loop
-slice-aggregate-add c = search needs
+slice-aggregate-add c = search
 
 mul-add : tie.Need-mul-add Inv-loop μ-loop
 mul-add c = search needs
 
 shared-slice-read-add : tie.Need-shared-slice-read-add Inv-loop μ-loop
-shared-slice-read-add c = search needs
+shared-slice-read-add c = search
 
 add-requires : tie.Need-add-requires Inv-loop μ-loop
-add-requires c κs = search needs
+add-requires c κs = search
 
 add-i : tie.Need-add-i Inv-loop μ-loop
 add-i c = search needs

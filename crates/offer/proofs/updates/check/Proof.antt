@@ -36,13 +36,13 @@ mul-bucket : tie.Need-mul-bucket Inv-loop μ-loop
 mul-bucket c = search needs
 
 shared-slice-read-bucket : tie.Need-shared-slice-read-bucket Inv-loop μ-loop
-shared-slice-read-bucket c = search needs
+shared-slice-read-bucket c = search
 
 mul-number : tie.Need-mul-number Inv-loop μ-loop
 mul-number c = search needs
 
 shared-slice-read-number : tie.Need-shared-slice-read-number Inv-loop μ-loop
-shared-slice-read-number c = search needs
+shared-slice-read-number c = search
 
 array-read-number : tie.Need-array-read-number Inv-loop μ-loop
 array-read-number c = search needs
@@ -54,7 +54,7 @@ number-requires c κs =
     (search needs, far (getD (a .ids .now) (l .i) 0) (a .ids .now) (l .i) _ (l .inv .2 (getD (a .ids .now) (l .i) 0)))
 
 at-requires : tie.Need-at-requires Inv-loop μ-loop
-at-requires c κs = search needs
+at-requires c κs = search
 
 returns-2 : tie.Need-returns-2 Inv-loop μ-loop
 returns-2 c =

@@ -1,6 +1,5 @@
 -- `offer::updates::kind` meets its contract: the slab is that of the class (classOf). Assumes nothing.
 use mathlib.Core.Path.{sym, _∙_}
-use borrow.Author.Needs.{needs}
 use Rattle.offer.proofs.LawsUpdates.{kindOf-free, kindOf-slab, kindOf-none}
 use Rattle.offer.proofs.updates.kind.Statement.{statement}
 use Rattle.offer.proofs.updates.kind.Tie as tie
@@ -9,13 +8,13 @@ returns : tie.Need-returns
 returns c = kindOf-free (c .before .args .store) (c .before .args .length) (c .if1 .taken)
 
 slab-for-size-requires : tie.Need-slab-for-size-requires
-slab-for-size-requires c κs = search needs
+slab-for-size-requires c κs = search
 
 enum-known-slab : tie.Need-enum-known-slab
-enum-known-slab c = search needs
+enum-known-slab c = search
 
 enum-told : tie.Need-enum-told
-enum-told c = search needs
+enum-told c = search
 
 returns-2 : tie.Need-returns-2
 returns-2 c = kindOf-slab (c .before .before .before .before .before .args .store) (c .before .before .before .before .before .args .length) _ (c .before .before .before .before .if1 .left) (sym (c .before .before .before .slab-for-size .ensures) ∙ c .before .slab .given .1)

@@ -34,22 +34,22 @@ returns-2 c =
     sets-out (kindsOf (drop (l .i) (a .stores .now)) (drop (l .i) (a .lengths .now))) (l .slabs) (l .i) (omega arith) ∙ l .inv .2
 
 shared-slice-read-kind : tie.Need-shared-slice-read-kind Inv-loop μ-loop
-shared-slice-read-kind c = search needs
+shared-slice-read-kind c = search
 
 mul-kind : tie.Need-mul-kind Inv-loop μ-loop
 mul-kind c = search needs
 
 shared-slice-read-kind-2 : tie.Need-shared-slice-read-kind-2 Inv-loop μ-loop
-shared-slice-read-kind-2 c = search needs
+shared-slice-read-kind-2 c = search
 
 kind-requires : tie.Need-kind-requires Inv-loop μ-loop
-kind-requires c κs = search needs
+kind-requires c κs = search
 
 mul-slabs : tie.Need-mul-slabs Inv-loop μ-loop
 mul-slabs c = search needs
 
 array-write-slabs : tie.Need-array-write-slabs Inv-loop μ-loop
-array-write-slabs c = search needs
+array-write-slabs c = search
 
 add-i : tie.Need-add-i Inv-loop μ-loop
 add-i c = search needs

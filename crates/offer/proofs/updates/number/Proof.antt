@@ -12,10 +12,10 @@ mul-id : tie.Need-mul-id
 mul-id c = search needs
 
 shared-slice-read-id : tie.Need-shared-slice-read-id
-shared-slice-read-id c = search needs
+shared-slice-read-id c = search
 
 held-id-requires : tie.Need-held-id-requires
-held-id-requires c κs = search needs
+held-id-requires c κs = search
 
 returns : tie.Need-returns
 returns c =
@@ -23,7 +23,7 @@ returns c =
     (sym (c .before .held-id .ensures) ∙ not-true (c .before .held-id .result) (c .if1 .taken))
 
 earlier-requires : tie.Need-earlier-requires
-earlier-requires c κs = search needs
+earlier-requires c κs = search
 
 returns-2 : tie.Need-returns-2
 returns-2 c =
@@ -36,10 +36,10 @@ returns-3 c =
     (sym (c .before .before .before .before .held-id .ensures) ∙ not-false (c .before .before .before .before .held-id .result) (c .before .before .before .if1 .left)) (sym (c .before .before .earlier .ensures) ∙ c .before .if2 .left) (c .if3 .taken)
 
 get-requires : tie.Need-get-requires
-get-requires c κs = search needs
+get-requires c κs = search
 
 bad-location-requires : tie.Need-bad-location-requires
-bad-location-requires c κs = search needs
+bad-location-requires c κs = search
 
 returns-4 : tie.Need-returns-4
 returns-4 c =

@@ -21,13 +21,13 @@ mul-id : tie.Need-mul-id Inv-loop μ-loop
 mul-id c = search needs
 
 shared-slice-read-id : tie.Need-shared-slice-read-id Inv-loop μ-loop
-shared-slice-read-id c = search needs
+shared-slice-read-id c = search
 
 loop-holds : tie.Need-loop-holds Inv-loop μ-loop
 loop-holds c = (search needs, refl)
 
 sub-j : tie.Need-sub-j Inv-loop μ-loop
-sub-j c = search needs
+sub-j c = search
 
 mul-if1 : tie.Need-mul-if1 Inv-loop μ-loop
 mul-if1 c = search needs

@@ -1,8 +1,6 @@
-use mathlib.Core.Path.{_≡_}
-use lib.ListN.{length}
 use borrow.Author.Tests.{eq-eqb, ne-eqb}
-use Rattle.settings.specs.Settings.{storing, cookieOf}
-use Rattle.settings.proofs.Laws.{stored}
+use Rattle.settings.specs.Settings.{storing}
+use Rattle.settings.proofs.Laws.{written}
 use borrow.Author.Needs.{needs}
 use Rattle.settings.proofs.PersistentSettings.serialize.Statement.{statement}
 use Rattle.settings.proofs.PersistentSettings.serialize.Tie as tie
@@ -32,10 +30,10 @@ same-length c = search needs
 returns-2 : tie.Need-returns-2
 unfolding storing
 returns-2 c =
-    let cookie = c .before .before .before .before .before .before .before .before .before .before .before .before .before .before .before .before .before .before .args .cookie .now in
-    let n : length cookie ≡ 64 = c .before .before .before .before .before .before .before .before .before .before .before .before .before .before .before .before .if1 .left in
-    let written : c .before .before .write .last .0 ≡ cookieOf (c .before .before .before .before .before .before .before .before .before .before .before .before .before .before .before .before .before .before .args .leaf-fanout) = cc (stored cookie (c .before .before .before .before .before .before .before .before .before .before .before .before .before .before .before .before .before .before .args .leaf-fanout) n) in
-    simp (eq-eqb _ _ n, written)
+    let a = c .before .before .before .before .before .before .before .before .before .before .before .before .before .before .before .before .before .before .args in
+    let n = c .before .before .before .before .before .before .before .before .before .before .before .before .before .before .before .before .if1 .left in
+    let done = written (a .cookie .now) _ _ _ (c .before .before .write .last .0) (a .leaf-fanout) n (c .before .before .before .before .before .before .before .before .before .before .before .before .before .before .put-at .ensures) (c .before .before .before .before .before .before .before .before .before .before .put-at2 .ensures) (c .before .before .before .before .before .before .put-at3 .ensures) (c .before .before .write .ensures) in
+    simp (eq-eqb _ _ n, done)
 
 pub serialize-spec : {M : Type 1} → statement M
 serialize-spec =
