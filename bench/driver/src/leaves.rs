@@ -35,7 +35,7 @@ fn calls_for(n: usize) -> u32 {
 
 fn checks(rounds: u32, picture: &mut Picture) {
     println!("\n### Check: ns a call\n\n| bytes | ours | zlib | crc32fast's tables | zlib / ours | tables / ours |\n|--:|--:|--:|--:|--:|--:|");
-    for n in [0, 1, 4, 8, 16, 31, 32, 60, 64, 100, 128, 252, 256, 512, 1020, 1024, 2044, 4092, 16380, 65532, 1048572] {
+    for n in [0, 1, 4, 7, 8, 16, 31, 32, 60, 64, 65, 68, 72, 100, 128, 130, 252, 256, 512, 1020, 1024, 2044, 4092, 16380, 65532, 1048572] {
         let bytes = ramp(n);
         assert_eq!(ours::crc32(&bytes), zlib(&bytes));
         assert_eq!(ours::crc32(&bytes), table(&bytes));
