@@ -4,7 +4,7 @@ import model
 from model import SLABS, SLAB_SIZES, refused
 
 from comparison import spoken
-from comparison.beside import Beside, ask, library_says
+from comparison.beside import LIBRARY, Beside, ask, library_says
 from comparison.histories import OTHER_CLASS_IN_RUST
 
 # Beyond this a slot is not built in memory for the comparison.
@@ -182,7 +182,7 @@ def compare_errors(beside, errors):
         if not (rust == model_says or (model_says != "ok" and rust.startswith(model_says))):
             beside.differences.append(([], line, model_says, rust))
     beside.compared += len(errors)
-    if beside.library:
+    if LIBRARY:
         beside.lines = lines
-        beside.compare("library", ask("mapper", lines, beside.library), [library_says(model_says) for _, model_says in errors])
+        beside.compare("library", ask("mapper", lines, LIBRARY), [library_says(model_says) for _, model_says in errors])
         beside.lines = []

@@ -139,7 +139,7 @@ fn unpack(location: u64) -> String {
     })
 }
 
-/// Up to this tip a cutoff is read off a defrag list too.
+/// Up to this tip a cutoff is read off a defrag list too, where a slab can have it: with nothing taken its tip is at most 1.
 const LISTED: usize = 120;
 
 /// Asked for; and listed from, which has to agree.
@@ -151,10 +151,11 @@ fn cutoff(live: usize, tip: usize, ratio: f32) -> String {
         [1, slot] => format!("from {slot}"),
         _ => "no answer".into(),
     });
-    if tip <= LISTED && said != listed_from(live, tip, ratio) {
-        return BROKEN.into();
+    let has_list = tip <= LISTED && (live > 0 || tip <= 1);
+    match if has_list { listed_from(live, tip, ratio) } else { said.clone() } {
+        listed if listed == said => said,
+        listed => format!("{said}, but listed {listed}"),
     }
-    said
 }
 
 /// Where a slab of this tip, so many of its slots taken, is listed from: slot j is object j's for every j but 0, whatever the marks say, and
