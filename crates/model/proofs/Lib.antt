@@ -12,5 +12,4 @@ pub mod ReadBatches
 pub mod ReadRelease
 pub mod Read
 pub mod Lent
-pub mod Compared
 pub mod Shapes

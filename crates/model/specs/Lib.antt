@@ -9,7 +9,6 @@ pub mod Truncation
 pub mod Step
 pub mod Numbers
 pub mod Cases
-pub mod Sample
 pub mod Memory
 pub mod MemoryAfter
 pub mod Lent
