@@ -1,15 +1,38 @@
 -- What a search and a release pass over: marks of which none is one that they look for. Assumes nothing.
 use mathlib.Core.Path.{_≡_, refl, sym, ap, _∙_}
-use mathlib.Core.Bool.{Bool, true, false, cond}
+use mathlib.Core.Bool.{Bool, true, false, not, cond}
 use mathlib.Core.List.{List, [], _∷_, map}
-use Prim.Native.Nat.{ℕ, zero, suc, _≤_}
+use Prim.Native.Nat.{ℕ, zero, suc, _<_, _≤_}
 use native.Mathlib.Omega.{arith}
 use lib.Dec.{eqb}
 use lib.ListN.{length}
 use borrow.Author.Tests.{eqb-true, ne-eqb}
+use Rattle.refusal.proofs.Tests.{clash}
 use Rattle.marks.specs.Marks.{isPending, firstFree, countIf, letGo}
-use Rattle.marks.specs.Turned.{isMark, released}
+use Rattle.marks.specs.Turned.{isMark, hasMark, released}
 use Rattle.marks.proofs.LawsCount.{countIf-le}
+
+-- ---- whether any is this one
+has-by : (found : Bool) (n : ℕ) → (found ≡ false → n ≡ 0) → (found ≡ true → 0 < n) → found ≡ not (eqb n 0)
+has-by false n none some = rw (none refl) refl
+has-by true n none some = rw (ne-eqb n 0 (λ h. let s = some refl in omega arith)) refl
+
+pub has-is : (mark : ℕ) (ms : List ℕ) (found : Bool) → (found ≡ false → countIf (isMark mark) ms ≡ 0) → (found ≡ true → 0 < countIf (isMark mark) ms) → found ≡ hasMark mark ms
+unfolding hasMark
+has-is mark ms found = has-by found (countIf (isMark mark) ms)
+
+-- one is found: there was one before, or this is the first
+pub some-by : (found : Bool) (n here : ℕ) → (found ≡ false → here ≡ n) → (found ≡ true → 0 < n) → 0 < here → 0 < n
+some-by false n here ahead some one = omega (arith, ahead refl)
+some-by true n here ahead some one = some refl
+
+none-by : (n : ℕ) → not (eqb n 0) ≡ false → n ≡ 0
+none-by zero e = refl
+none-by (suc n) e = clash (rw (ne-eqb (suc n) 0 (λ h. omega arith)) at e)
+
+pub has-none : (mark : ℕ) (ms : List ℕ) → hasMark mark ms ≡ false → countIf (isMark mark) ms ≡ 0
+unfolding hasMark
+has-none mark ms = none-by (countIf (isMark mark) ms)
 
 -- ---- none is free
 pub none-free : (ms : List ℕ) → countIf (isMark 0) ms ≡ 0 → firstFree ms ≡ length ms
