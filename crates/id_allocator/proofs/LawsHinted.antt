@@ -11,7 +11,7 @@ use lib.Seq.{length-front, set-out}
 use borrow.Author.Tests.{ltb-true, ltb-false}
 use borrow.Rule.Slice.PartMut.{putMid}
 use Rattle.refusal.proofs.Tests.{by-test}
-use Rattle.marks.specs.Marks.{isPending, isTaken, firstFree, smallestFree, countIf, lastTaken, hold}
+use Rattle.marks.specs.Marks.{isFree, isPending, isTaken, firstFree, smallestFree, countIf, lastTaken, hold}
 use Rattle.id_allocator.specs.Counted.{hinted}
 use Rattle.marks.specs.Turned.{turned}
 use Rattle.id_allocator.specs.Written.{opened, givenBack, hintBack}
@@ -196,6 +196,13 @@ hinted-live zero ms = omega arith
 hinted-live (suc hint) [] = omega arith
 hinted-live (suc hint) (zero ∷ ms) = let r = hinted-live hint ms in omega arith
 hinted-live (suc hint) (suc m ∷ ms) = let r = hinted-live hint ms in rw (eqb·suc-zero m) (omega arith)
+
+pub hinted-free : (hint : ℕ) (ms : List ℕ) → countIf isFree (hinted hint ms) ≡ countIf isFree (drop hint ms)
+unfolding hinted
+hinted-free zero ms = refl
+hinted-free (suc hint) [] = refl
+hinted-free (suc hint) (zero ∷ ms) = hinted-free hint ms
+hinted-free (suc hint) (suc m ∷ ms) = rw (eqb·suc-zero m) (hinted-free hint ms)
 
 pub hinted-pending : (hint : ℕ) (ms : List ℕ) → countIf isPending (hinted hint ms) ≡ countIf isPending ms
 unfolding hinted

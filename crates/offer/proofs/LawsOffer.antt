@@ -26,24 +26,25 @@ use Rattle.model.proofs.Batches.{length-updatesOf, length-place}
 use Rattle.model.proofs.ReadBatches.{memory-fits}
 use Rattle.model.proofs.Steps.{Fits}
 use Rattle.tables.specs.Shapes.{allFit}
+use Rattle.tables.specs.Verdicts.{verdictOf}
+use Rattle.tables.specs.declared.Judged.{Judged}
+use Rattle.tables.specs.declared.Judged.the-variants as J
 use Rattle.tables.proofs.Lengths.{allFit-read}
-use Rattle.offer.specs.Kinds.{noKinds, kindsOf, checkIn}
-use Rattle.offer.specs.Outcome.{offerLeaves, answerOf}
-use Rattle.offer.specs.Verdicts.{offerFits, verdictOf}
-use Rattle.offer.specs.Places.{slotsIn, placeIn}
-use Rattle.offer.specs.Room.{noneAsked, tallied, roomIn}
-use Rattle.offer.specs.declared.Offered.{Offered}
-use Rattle.offer.specs.declared.Offered.the-variants as O
+use Rattle.updates.specs.Kinds.{noKinds, kindsOf, checkIn}
+use Rattle.offer.specs.Outcome.{offerLeaves}
+use Rattle.offer.specs.Verdicts.{offerFits}
+use Rattle.places.specs.Places.{slotsIn, placeIn}
+use Rattle.room.specs.Room.{noneAsked, tallied, roomIn}
 use Rattle.offer.proofs.LawsPlaces.{sets-whole, place-read}
-use Rattle.offer.proofs.LawsRoom.{room-read, length-kindsOf}
-use Rattle.offer.proofs.LawsUpdates.{kinds-front, check-read, check-lent}
+use Rattle.offer.proofs.LawsRoom.{room-read}
+use Rattle.offer.proofs.LawsUpdates.{length-kindsOf, kinds-front, check-read, check-lent}
 
 -- ---- one test after another
-pub seq-stop : (o : Offered) (v w : Verdict) (r : Refusal) → verdictOf o ≡ v → o ≡ O.Refused r → verdictOf o ≡ (v ⨾ w)
+pub seq-stop : (o : Judged) (v w : Verdict) (r : Refusal) → verdictOf o ≡ v → o ≡ J.Refused r → verdictOf o ≡ (v ⨾ w)
 unfolding _⨾_
 seq-stop o v w r e p = let q : refuse (r .number) (r .index) ≡ v = sym (ap verdictOf p) ∙ e in ap verdictOf p ∙ ap (λ x. x ⨾ w) q
 
-pub seq-on : (o : Offered) (v w : Verdict) → verdictOf o ≡ v → o ≡ O.Done → w ≡ (v ⨾ w)
+pub seq-on : (o : Judged) (v w : Verdict) → verdictOf o ≡ v → o ≡ J.Passed → w ≡ (v ⨾ w)
 unfolding _⨾_
 seq-on o v w e p = let q : ok ≡ v = sym (ap verdictOf p) ∙ e in ap (λ x. x ⨾ w) q
 
@@ -59,11 +60,9 @@ module _ (m : Memory) (is : List ℕ) (ss : List Bool) (ns out : List ℕ) where
   leaves-as r n p e =
       (λ i. record { answer = refused (p i .number) (p i .index); slotMarks = m .slotMarks; batch = m .batch; tallies = m .tallies; placed = out }) ∙ leaves-refused n 0 e
 
-  pub leaves-verdict : (o : Offered) (r : Refusal) → o ≡ O.Refused r → refusal (read m) (offer is ss ns out) ≡ verdictOf o
-      → record { answer = answerOf o out; slotMarks = m .slotMarks; batch = m .batch; tallies = m .tallies; placed = out } ≡ offerLeaves m is ss ns out
-  leaves-verdict o r p e =
-      (λ i. record { answer = answerOf (p i) out; slotMarks = m .slotMarks; batch = m .batch; tallies = m .tallies; placed = out })
-      ∙ leaves-refused (r .number) (r .index) (e ∙ ap verdictOf p)
+  pub leaves-verdict : (o : Judged) (r : Refusal) → o ≡ J.Refused r → refusal (read m) (offer is ss ns out) ≡ verdictOf o
+      → record { answer = refused (r .number) (r .index); slotMarks = m .slotMarks; batch = m .batch; tallies = m .tallies; placed = out } ≡ offerLeaves m is ss ns out
+  leaves-verdict o r p e = leaves-refused (r .number) (r .index) (e ∙ ap verdictOf p)
 
   abbrev Taken : List ℕ
   Taken = takenBy (read m) (updatesOf is ss ns)

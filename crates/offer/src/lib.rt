@@ -8,23 +8,19 @@
 //         Offered::Refused(refusal) => ..,  // nothing is written
 //     }
 //
-// What could refuse only reads; what is written comes after it and cannot fail. Whether a slab has slots enough is told by the searches
-// that would take them where few are asked for, else by a count that ends when there are enough.
+// What could refuse only reads (`updates`, `room`); what is written comes after it and cannot fail (`places`).
 ghost use mathlib.Core.Path.{_≡_};
 ghost use mathlib.Core.List.{[]};
 ghost use Rattle.model.specs.Verdict.{_⨾_};
 ghost use Rattle.model.specs.Memory.{memoryOf};
 ghost use Rattle.offer.specs.Outcome.{answerOf, Left, offerLeaves};
-ghost use Rattle.offer.specs.Verdicts.{verdictOf, offerFits};
-ghost use Rattle.offer.specs.Kinds.{checkIn};
-ghost use Rattle.offer.specs.Room.{roomIn, tallied, noneAsked};
-
-mod places;
-mod room;
-mod updates;
-
+ghost use Rattle.tables.specs.Verdicts.{verdictOf};
+ghost use Rattle.offer.specs.Verdicts.{offerFits};
+ghost use Rattle.updates.specs.Kinds.{checkIn};
+ghost use Rattle.room.specs.Room.{roomIn, tallied, noneAsked};
 use refusal::Refusal;
 use tables::Capacities;
+use tables::Judged;
 use tables::MOST_UPDATES;
 use tables::all_fit;
 use tables::both;
@@ -76,7 +72,7 @@ fn refused(
     tallies: &[u64],
     ids: &[u64],
     slabs: &[usize],
-) -> Offered
+) -> Judged
     ensures { λ r. ⌜ verdictOf r ≡ (checkIn (memoryOf (caps .ids) (caps .slots) (now («id_marks» .entry)) (now (locations .entry)) (now («slot_marks» .entry)) (now (owners .entry)) [] (now (tallies .entry))) [] 0 (now (ids .entry)) (now (slabs .entry)) ⨾ roomIn (caps .slots) (now («slot_marks» .entry)) (now (tallies .entry)) (tallied noneAsked (now (slabs .entry))) 78 0) ⌝ }
 {
     let slots = caps.slots;
@@ -90,7 +86,7 @@ fn refused(
         ids,
         slabs,
     );
-    let Offered::Done = checked else {
+    let Judged::Passed = checked else {
         return checked;
     };
     let asked = room::tally(slabs);
@@ -138,7 +134,7 @@ pub fn offer(
     }
     let all = updates::kinds(stores, lengths);
     let slabs = &all[..n];
-    let verdict = refused(
+    let judged = refused(
         caps,
         id_marks,
         locations,
@@ -148,9 +144,9 @@ pub fn offer(
         ids,
         slabs,
     );
-    let Offered::Done = verdict else {
-        return verdict;
-    };
+    if let Judged::Refused(refusal) = judged {
+        return Offered::Refused(refusal);
+    }
     places::place(slots, slot_marks, tallies, slabs, placed);
     places::keep(batch, ids, placed, n as u64 + 1);
     Offered::Done

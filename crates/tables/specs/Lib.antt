@@ -1,2 +1,3 @@
 pub mod Shapes
 pub mod Entries
+pub mod Verdicts

@@ -15,6 +15,7 @@ pub use capacities::Capacities;
 pub use entries::bad_location;
 pub use entries::held_id;
 pub use entries::slab_marks;
+use refusal::Refusal;
 pub use shapes::all_fit;
 pub use shapes::both;
 pub use shapes::defrag_fits;
@@ -26,6 +27,12 @@ pub use shapes::tallies_fit;
 pub use words::add;
 pub use words::get;
 pub use words::put;
+
+// What a test says that only reads: nothing is refused so far, or this is.
+pub enum Judged {
+    Passed,
+    Refused(Refusal),
+}
 
 pub const SLABS: usize = 78;
 // The ids' allocator, then the slabs'.

@@ -4,7 +4,7 @@ use mathlib.Core.Path.{sym, ap, _∙_}
 use lib.ListN.{length, take}
 use borrow.Author.Needs.{needs}
 use Rattle.model.specs.Memory.{memoryOf}
-use Rattle.offer.specs.Verdicts.{verdictOf}
+use Rattle.tables.specs.Verdicts.{verdictOf}
 use Rattle.offer.proofs.LawsOffer.{leaves-as, leaves-verdict, leaves-done, refused-shape, refused-open, refused-many, fits-told, fits-failed, rest-told, kinds-told, kinds-long}
 use Rattle.offer.proofs.offer.Statement.{statement}
 use Rattle.offer.proofs.offer.Tie as tie
@@ -68,11 +68,8 @@ slice-aggregate-slabs c =
 refused-requires : tie.Need-refused-requires
 refused-requires c κs = search
 
-enum-told : tie.Need-enum-told
-enum-told c = search
-
-enum-told-2 : tie.Need-enum-told-2
-enum-told-2 c = search
+enum-known-judged : tie.Need-enum-known-judged
+enum-known-judged c = search
 
 same-length-3 : tie.Need-same-length-3
 same-length-3 c = search
@@ -85,14 +82,17 @@ same-length-5 c = search
 
 returns-4 : tie.Need-returns-4
 returns-4 c =
-    let a = c .before .before .before .before .before .before .before .before .before .before .before .before .before .before .before .before .before .before .before .before .before .before .before .args in
+    let a = c .before .before .before .before .before .before .before .before .before .before .before .before .before .before .before .before .before .before .before .before .before .before .before .before .args in
     let m = memoryOf (a .caps .ids) (a .caps .slots) (a .id-marks .now) (a .locations .now) (a .slot-marks .now) (a .owners .now) (a .batch .now) (a .tallies .now) in
-    let e = fits-told m (a .ids .now) (a .stores .now) (a .lengths .now) (a .placed .now) (c .before .before .before .before .before .before .before .before .before .before .before .before .fits2 .result) (c .before .before .before .before .before .before .before .before .before .before .before .before .fits2 .ensures) (c .before .before .before .before .before .before .before .before .before .before .before .if1 .left) in
-    let z = c .before .before .before .before .before .before .before .before .if2 .left in
-    let few = c .before .before .before .before .before .before .before .if3 .left in
-    let r = c .before .before .before .before .before .before .kinds .result in
-    leaves-verdict m (a .ids .now) (a .stores .now) (a .lengths .now) (a .placed .now) (c .before .before .refused .result) _ (c .enum-told2 .given .1)
-    (rest-told m (a .ids .now) (a .stores .now) (a .lengths .now) (a .placed .now) e (sym (c .before .before .before .before .before .before .before .before .before .get .ensures) ∙ z) few (take (length (a .ids .now)) r) (kinds-told m (a .ids .now) (a .stores .now) (a .lengths .now) (a .placed .now) e few r (c .before .before .before .before .before .before .kinds .ensures)) _ (c .before .before .refused .ensures))
+    let e = fits-told m (a .ids .now) (a .stores .now) (a .lengths .now) (a .placed .now) (c .before .before .before .before .before .before .before .before .before .before .before .before .before .fits2 .result) (c .before .before .before .before .before .before .before .before .before .before .before .before .before .fits2 .ensures) (c .before .before .before .before .before .before .before .before .before .before .before .before .if1 .left) in
+    let z = c .before .before .before .before .before .before .before .before .before .if2 .left in
+    let few = c .before .before .before .before .before .before .before .before .if3 .left in
+    let r = c .before .before .before .before .before .before .before .kinds .result in
+    leaves-verdict m (a .ids .now) (a .stores .now) (a .lengths .now) (a .placed .now) (c .before .before .before .refused .result) _ (c .before .judged .given .1)
+    (rest-told m (a .ids .now) (a .stores .now) (a .lengths .now) (a .placed .now) e (sym (c .before .before .before .before .before .before .before .before .before .before .get .ensures) ∙ z) few (take (length (a .ids .now)) r) (kinds-told m (a .ids .now) (a .stores .now) (a .lengths .now) (a .placed .now) e few r (c .before .before .before .before .before .before .before .kinds .ensures)) _ (c .before .before .before .refused .ensures))
+
+enum-told : tie.Need-enum-told
+enum-told c = search
 
 place-requires : tie.Need-place-requires
 place-requires c κs = search
@@ -146,12 +146,12 @@ offer-spec =
     array-share-prefix-all
     slice-aggregate-slabs
     refused-requires
-    enum-told
-    enum-told-2
+    enum-known-judged
     same-length-3
     same-length-4
     same-length-5
     returns-4
+    enum-told
     place-requires
     add-keep
     keep-requires

@@ -1,0 +1,8 @@
+-- What a test that only reads says, in the model's words. Assumes nothing.
+use Rattle.model.specs.Verdict.{Verdict, ok, refuse}
+use Rattle.tables.specs.declared.Judged.{Judged}
+use Rattle.tables.specs.declared.Judged.the-variants as J
+
+abbrev pub verdictOf : Judged → Verdict
+verdictOf J.Passed = ok
+verdictOf (J.Refused r) = refuse (r .number) (r .index)
