@@ -45,7 +45,7 @@ check-lent m b seen i (x ∷ is) (k ∷ ks) = ap (sayAt (rowNumber m seen x k) i
 
 say-tests : (h r n b : Bool) (i : ℕ) (v : Verdict)
     → sayAt (numberBy h r n b) i v ≡ (test (not h) noSuchId i ⨾ test r repeatedId i ⨾ test n tooLarge i ⨾ test b tablesDisagree i ⨾ v)
-unfolding test _⨾_
+unfolding numberBy test _⨾_
 say-tests false r n b i v = refl
 say-tests true true n b i v = refl
 say-tests true false true b i v = refl

@@ -7,7 +7,7 @@ use Prim.Native.Nat.{ℕ, zero, suc, _+_, _-_, _%_, _≤_, _<_}
 use native.Mathlib.Decide.{ℕ-discrete}
 use native.Mathlib.Numerals.{add-one}
 use native.Mathlib.Omega.{arith}
-use lib.Dec.{leb, ltb}
+use lib.Dec.{leb, ltb, eqb}
 use lib.ListN.{length, getD, drop, set, drop-of-length-le}
 use lib.Seq.{sets, drop-cons, set-out, getD-set-same, getD-set-other}
 use borrow.Author.Tests.{eq-eqb, ne-eqb, ltb-false}
@@ -22,7 +22,7 @@ use Rattle.model.specs.Tables.{elem}
 use Rattle.model.specs.Verdict.{Verdict, ok, refuse}
 use Rattle.model.proofs.Tables.{elem-cases}
 use Rattle.tables.specs.Entries.{heldIn, badIn}
-use Rattle.updates.specs.Kinds.{kindOf, kindsOf, before, rowNumber, sayAt, checkIn}
+use Rattle.updates.specs.Kinds.{kindOf, kindsOf, before, numberBy, rowNumber, sayAt, checkIn}
 
 -- ---- the slab of an update
 firstFit-le : (n : ℕ) (ss : List ℕ) → firstFit n ss ≤ length ss
@@ -104,38 +104,44 @@ unfolding checkIn
 checkIn-turn m is ks i h g = rw (drop-cons is i 0 h, drop-cons ks i 0 g, add-one i)
 
 -- the number of an update, test by test
-module _ (m : Memory) (seen : List ℕ) (x k : ℕ) where
-  abbrev Held : Bool
-  Held = heldIn (m .ids) (m .idMarks) (m .tallies) x
+pub row-not-held : (h r n b : Bool) → h ≡ false → 8 ≡ numberBy h r n b
+unfolding numberBy
+row-not-held h r n b e = rw e
 
-  abbrev Bad : Bool
-  Bad = badIn (m .slots) (m .slotMarks) (m .owners) (m .tallies) x (getD (m .locations) x 0)
+pub row-repeated : (h r n b : Bool) → h ≡ true → r ≡ true → 9 ≡ numberBy h r n b
+unfolding numberBy
+row-repeated h r n b e f = rw (e, f)
 
-  pub row-not-held : Held ≡ false → 8 ≡ rowNumber m seen x k
-  unfolding rowNumber
-  row-not-held h = rw h
+module _ (h r : Bool) (k : ℕ) (b : Bool) where
+  pub row-large : h ≡ true → r ≡ false → k ≡ 78 → 2 ≡ numberBy h r (eqb k 78) b
+  unfolding numberBy
+  row-large e f n = rw (e, f, eq-eqb k 78 n)
 
-  pub row-repeated : Held ≡ true → elem x seen ≡ true → 9 ≡ rowNumber m seen x k
-  unfolding rowNumber
-  row-repeated h r = rw (h, r)
+  pub row-bad : h ≡ true → r ≡ false → (k ≡ 78 → ⊥) → b ≡ true → 13 ≡ numberBy h r (eqb k 78) b
+  unfolding numberBy
+  row-bad e f n t = rw (e, f, ne-eqb k 78 n, t)
 
-  pub row-large : Held ≡ true → elem x seen ≡ false → k ≡ 78 → 2 ≡ rowNumber m seen x k
-  unfolding rowNumber
-  row-large h r n = rw (h, r, eq-eqb k 78 n)
+  pub row-fine : h ≡ true → r ≡ false → (k ≡ 78 → ⊥) → b ≡ false → 0 ≡ numberBy h r (eqb k 78) b
+  unfolding numberBy
+  row-fine e f n t = rw (e, f, ne-eqb k 78 n, t)
 
-  pub row-bad : Held ≡ true → elem x seen ≡ false → (k ≡ 78 → ⊥) → Bad ≡ true → 13 ≡ rowNumber m seen x k
-  unfolding rowNumber
-  row-bad h r n b = rw (h, r, ne-eqb k 78 n, b)
-
-  pub row-fine : Held ≡ true → elem x seen ≡ false → (k ≡ 78 → ⊥) → Bad ≡ false → 0 ≡ rowNumber m seen x k
-  unfolding rowNumber
-  row-fine h r n b = rw (h, r, ne-eqb k 78 n, b)
-
-pub bad-told : (m : Memory) (x l : ℕ) (b : Bool) → l ≡ getD (m .locations) (0 + x) 0 → b ≡ badIn (m .slots) (m .slotMarks) (m .owners) (m .tallies) x l
-    → badIn (m .slots) (m .slotMarks) (m .owners) (m .tallies) x (getD (m .locations) x 0) ≡ b
-bad-told m x l b e p =
+-- told by the location that the table has
+pub row-told : (m : Memory) (seen : List ℕ) (x k l n : ℕ)
+    → n ≡ numberBy (heldIn (m .ids) (m .idMarks) (m .tallies) x) (elem x seen) (eqb k 78) (badIn (m .slots) (m .slotMarks) (m .owners) (m .tallies) x l)
+    → l ≡ getD (m .locations) (0 + x) 0 → n ≡ rowNumber m seen x k
+unfolding rowNumber
+row-told m seen x k l n e p =
     let z : 0 + x ≡ x = omega arith in
-    sym (p ∙ ap (badIn (m .slots) (m .slotMarks) (m .owners) (m .tallies) x) (e ∙ ap (λ y. getD (m .locations) y 0) z))
+    e ∙ ap (λ y. numberBy (heldIn (m .ids) (m .idMarks) (m .tallies) x) (elem x seen) (eqb k 78) (badIn (m .slots) (m .slotMarks) (m .owners) (m .tallies) x y)) (p ∙ ap (λ y. getD (m .locations) y 0) z)
+
+-- the locations found so far
+pub found-on : (ls is found : List ℕ) (i v : ℕ) → length found ≡ 256 → i < 256 → v ≡ getD ls (0 + getD is i 0) 0
+    → ((k : ℕ) → k < i → k < 256 → getD found k 0 ≡ getD ls (0 + getD is k 0) 0) → (k : ℕ) → k < i + 1 → k < 256 → getD (set found i v) k 0 ≡ getD ls (0 + getD is k 0) 0
+found-on ls is found i v l h e f k a b = by (ℕ-discrete k i)
+  where
+    by : Dec (k ≡ i) → getD (set found i v) k 0 ≡ getD ls (0 + getD is k 0) 0
+    by (yes p) = rw p (getD-set-same found i v 0 (omega arith) ∙ e)
+    by (no n) = getD-set-other found i k v 0 n ∙ f k (omega (arith, n)) b
 
 -- a turn of the check, and its end
 module _ (m : Memory) (is ks : List ℕ) (i n : ℕ) (h : i < length is) (l : i < length ks) (e : n ≡ rowNumber m (before i is) (getD is i 0) (getD ks i 0)) where

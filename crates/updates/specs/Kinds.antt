@@ -32,7 +32,7 @@ before zero is = []
 before (suc i) is = getD is i 0 ∷ before i is
 
 -- the number of the first test that is met, 0 where none is
-abbrev pub numberBy : Bool → Bool → Bool → Bool → ℕ
+unfoldable pub numberBy : Bool → Bool → Bool → Bool → ℕ
 numberBy held repeated none bad = cond held (cond repeated repeatedId (cond none tooLarge (cond bad tablesDisagree 0))) noSuchId
 
 -- of id x, after those seen, and slab k

@@ -9,13 +9,15 @@
 ghost use mathlib.Core.Path.{_≡_};
 ghost use mathlib.Core.Bool.{false};
 ghost use mathlib.Core.List.{[]};
-ghost use Prim.Native.Nat.{_<_};
+ghost use Prim.Native.Nat.{ℕ, _+_, _<_};
+ghost use lib.Dec.{eqb};
 ghost use lib.ListN.{length, getD};
 ghost use lib.Seq.{sets};
 ghost use Rattle.model.specs.Tables.{elem};
 ghost use Rattle.model.specs.Memory.{memoryOf};
+ghost use Rattle.tables.specs.Entries.{heldIn, badIn};
 ghost use Rattle.tables.specs.Verdicts.{verdictOf};
-ghost use Rattle.updates.specs.Kinds.{noKinds, kindOf, kindsOf, before, rowNumber, checkIn};
+ghost use Rattle.updates.specs.Kinds.{noKinds, kindOf, kindsOf, before, numberBy, checkIn};
 use refusal::Refusal;
 use sizes::Class;
 use tables::Capacities;
@@ -93,21 +95,48 @@ fn earlier(ids: &[u64], i: usize, near: bool) -> bool
     repeated(ids, i)
 }
 
+// The locations of the first 256 ids. All are read before the first is judged, so that no read of a far place in memory waits for another.
+fn locations_of(locations: &[u64], ids: &[u64]) -> [u64; 256]
+    ensures { λ r. ⌜ (length r ≡ 256) × ((k : ℕ) → k < length (now (ids .entry)) → k < 256 → getD r k 0 ≡ getD (now (locations .entry)) (0 + getD (now (ids .entry)) k 0) 0) ⌝ }
+{
+    let mut found = [0u64; 256];
+    let mut i: usize = 0;
+    while i < ids.len() {
+        if MOST_UPDATES <= i {
+            return found;
+        }
+        found[i] = get(locations, 0, ids[i] as usize);
+        i += 1;
+    }
+    found
+}
+
+// The location of the id of update i: from those found, past them from the table.
+fn location_of(found: &[u64], locations: &[u64], ids: &[u64], i: usize) -> u64
+    requires { ⌜ (i < length (now ids)) × (length (now found) ≡ 256) × ((k : ℕ) → k < length (now ids) → k < 256 → getD (now found) k 0 ≡ getD (now locations) (0 + getD (now ids) k 0) 0) ⌝ }
+    ensures { λ r. ⌜ r ≡ getD (now (locations .entry)) (0 + getD (now (ids .entry)) i 0) 0 ⌝ }
+{
+    if i < MOST_UPDATES {
+        return found[i];
+    }
+    get(locations, 0, ids[i] as usize)
+}
+
 // The number that update i is refused with, 0 where it is not.
 fn number(
     caps: Capacities,
     id_marks: &[u8],
-    locations: &[u64],
     slot_marks: &[u8],
     owners: &[u64],
     tallies: &[u64],
     ids: &[u64],
     i: usize,
     slab: usize,
+    location: u64,
     near: bool,
 ) -> u8
     requires { ⌜ (i < length (now ids)) × (near ≡ false → elem (getD (now ids) i 0) (before i (now ids)) ≡ false) ⌝ }
-    ensures { λ r. ⌜ r ≡ rowNumber (memoryOf (caps .ids) (caps .slots) (now («id_marks» .entry)) (now (locations .entry)) (now («slot_marks» .entry)) (now (owners .entry)) [] (now (tallies .entry))) (before i (now (ids .entry))) (getD (now (ids .entry)) i 0) slab ⌝ }
+    ensures { λ r. ⌜ r ≡ numberBy (heldIn (caps .ids) (now («id_marks» .entry)) (now (tallies .entry)) (getD (now (ids .entry)) i 0)) (elem (getD (now (ids .entry)) i 0) (before i (now (ids .entry)))) (eqb slab 78) (badIn (caps .slots) (now («slot_marks» .entry)) (now (owners .entry)) (now (tallies .entry)) (getD (now (ids .entry)) i 0) location) ⌝ }
 {
     let id = ids[i];
     if !held_id(caps.ids, id_marks, tallies, id) {
@@ -119,7 +148,6 @@ fn number(
     if slab == NO_CLASS {
         return Refusal::TOO_LARGE;
     }
-    let location = get(locations, 0, id as usize);
     if bad_location(caps.slots, slot_marks, owners, tallies, id, location) {
         return Refusal::TABLES_DISAGREE;
     }
@@ -139,6 +167,7 @@ pub fn check(
 ) -> Judged
     ensures { λ r. ⌜ verdictOf r ≡ checkIn (memoryOf (caps .ids) (caps .slots) (now («id_marks» .entry)) (now (locations .entry)) (now («slot_marks» .entry)) (now (owners .entry)) [] (now (tallies .entry))) [] 0 (now (ids .entry)) (now (slabs .entry)) ⌝ }
 {
+    let found = locations_of(locations, ids);
     let mut seen = [false; 4096];
     let mut i: usize = 0;
     while i < ids.len() {
@@ -146,16 +175,17 @@ pub fn check(
             return Judged::Passed;
         }
         let bucket = (ids[i] % BUCKETS) as usize;
+        let location = location_of(&found, locations, ids, i);
         let n = number(
             caps,
             id_marks,
-            locations,
             slot_marks,
             owners,
             tallies,
             ids,
             i,
             slabs[i],
+            location,
             seen[bucket],
         );
         if n != 0 {

@@ -13,15 +13,18 @@ use Rattle.model.specs.Tables.{elem}
 use Rattle.model.specs.Verdict.{refuse}
 use Rattle.updates.specs.Kinds.{before, checkIn}
 use Rattle.model.specs.Memory.{memoryOf}
-use Rattle.updates.proofs.Laws.{check-stop, check-on, check-end, check-short, seen-on, far}
+use Rattle.updates.proofs.Laws.{row-told, check-stop, check-on, check-end, check-short, seen-on, far}
 use Rattle.updates.proofs.check.Statement.{statement}
 use Rattle.updates.proofs.check.Tie as tie
 
 abbrev Inv-loop : tie.InvT-loop
-Inv-loop caps id-marks locations slot-marks owners tallies ids slabs seen₀ i₀ seen i = (i ≤ length ids) × (length seen ≡ 4096) × ((x : ℕ) → elem x (before i ids) ≡ true → getD seen (x % 4096) false ≡ true) × (checkIn (memoryOf (caps .ids) (caps .slots) id-marks locations slot-marks owners [] tallies) (before i ids) i (drop i ids) (drop i slabs) ≡ checkIn (memoryOf (caps .ids) (caps .slots) id-marks locations slot-marks owners [] tallies) [] 0 ids slabs)
+Inv-loop caps id-marks locations slot-marks owners tallies ids slabs found seen₀ i₀ seen i = (i ≤ length ids) × (length seen ≡ 4096) × ((x : ℕ) → elem x (before i ids) ≡ true → getD seen (x % 4096) false ≡ true) × (checkIn (memoryOf (caps .ids) (caps .slots) id-marks locations slot-marks owners [] tallies) (before i ids) i (drop i ids) (drop i slabs) ≡ checkIn (memoryOf (caps .ids) (caps .slots) id-marks locations slot-marks owners [] tallies) [] 0 ids slabs)
 
 abbrev μ-loop : tie.MeasureT-loop
-μ-loop caps id-marks locations slot-marks owners tallies ids slabs seen₀ i₀ seen i = length ids - i
+μ-loop caps id-marks locations slot-marks owners tallies ids slabs found seen₀ i₀ seen i = length ids - i
+
+locations-of-requires : tie.Need-locations-of-requires Inv-loop μ-loop
+locations-of-requires c κs = search
 
 loop-holds : tie.Need-loop-holds Inv-loop μ-loop
 loop-holds c = (search needs, search needs, λ x e. clash (sym e), refl)
@@ -29,7 +32,7 @@ loop-holds c = (search needs, search needs, λ x e. clash (sym e), refl)
 returns : tie.Need-returns Inv-loop μ-loop
 returns c =
     let l = c .before .before .loop in
-    let a = c .before .before .before .before .before .before .before .before .before .before .args in
+    let a = c .before .before .before .before .before .before .before .before .before .before .before .args in
     check-short _ _ _ (a .slabs .now) _ (l .i) (c .if1 .taken) ∙ l .inv .3
 
 mul-bucket : tie.Need-mul-bucket Inv-loop μ-loop
@@ -37,6 +40,12 @@ mul-bucket c = search needs
 
 shared-slice-read-bucket : tie.Need-shared-slice-read-bucket Inv-loop μ-loop
 shared-slice-read-bucket c = search
+
+slice-aggregate-location-of : tie.Need-slice-aggregate-location-of Inv-loop μ-loop
+slice-aggregate-location-of c = search needs
+
+location-of-requires : tie.Need-location-of-requires Inv-loop μ-loop
+location-of-requires c κs = (search needs, c .before .before .before .before .before .locations-of .ensures .0, c .before .before .before .before .before .locations-of .ensures .1)
 
 mul-number : tie.Need-mul-number Inv-loop μ-loop
 mul-number c = search needs
@@ -49,8 +58,8 @@ array-read-number c = search needs
 
 number-requires : tie.Need-number-requires Inv-loop μ-loop
 number-requires c κs =
-    let l = c .before .before .before .before .loop in
-    let a = c .before .before .before .before .before .before .before .before .before .before .before .before .args in
+    let l = c .before .before .before .before .before .before .loop in
+    let a = c .before .before .before .before .before .before .before .before .before .before .before .before .before .before .before .args in
     (search needs, far (getD (a .ids .now) (l .i) 0) (a .ids .now) (l .i) _ (l .inv .2 (getD (a .ids .now) (l .i) 0)))
 
 at-requires : tie.Need-at-requires Inv-loop μ-loop
@@ -58,10 +67,12 @@ at-requires c κs = search
 
 returns-2 : tie.Need-returns-2 Inv-loop μ-loop
 returns-2 c =
-    let l = c .before .before .before .before .before .before .before .loop in
-    let a = c .before .before .before .before .before .before .before .before .before .before .before .before .before .before .before .args in
+    let l = c .before .before .before .before .before .before .before .before .before .loop in
+    let a = c .before .before .before .before .before .before .before .before .before .before .before .before .before .before .before .before .before .before .args in
+    let m = memoryOf (a .caps .ids) (a .caps .slots) (a .id-marks .now) (a .locations .now) (a .slot-marks .now) (a .owners .now) [] (a .tallies .now) in
     ap (λ (r : Refusal). refuse (r .number) (r .index)) (c .at .ensures)
-    ∙ check-stop _ (a .ids .now) (a .slabs .now) (l .i) (c .before .before .number .result) (search needs) (search needs) (c .before .before .number .ensures) (c .before .if2 .taken) ∙ l .inv .3
+    ∙ check-stop m (a .ids .now) (a .slabs .now) (l .i) (c .before .before .number .result) (search needs) (search needs)
+    (row-told m (before (l .i) (a .ids .now)) (getD (a .ids .now) (l .i) 0) (getD (a .slabs .now) (l .i) 0) _ _ (c .before .before .number .ensures) (c .before .before .before .before .location-of .ensures)) (c .before .if2 .taken) ∙ l .inv .3
 
 array-write-seen : tie.Need-array-write-seen Inv-loop μ-loop
 array-write-seen c = search needs
@@ -74,18 +85,20 @@ loop-less c = search needs
 
 loop-again : tie.Need-loop-again Inv-loop μ-loop
 loop-again c =
-    let l = c .before .before .before .before .before .before .loop in
-    let a = c .before .before .before .before .before .before .before .before .before .before .before .before .before .before .args in (
+    let l = c .before .before .before .before .before .before .before .before .loop in
+    let a = c .before .before .before .before .before .before .before .before .before .before .before .before .before .before .before .before .before .args in
+    let m = memoryOf (a .caps .ids) (a .caps .slots) (a .id-marks .now) (a .locations .now) (a .slot-marks .now) (a .owners .now) [] (a .tallies .now) in (
       search needs,
       search needs,
       seen-on (a .ids .now) (l .i) (l .seen) (l .inv .1) (l .inv .2),
-      check-on _ (a .ids .now) (a .slabs .now) (l .i) (c .before .number .result) (search needs) (search needs) (c .before .number .ensures) (omega arith) ∙ l .inv .3,
+      check-on m (a .ids .now) (a .slabs .now) (l .i) (c .before .number .result) (search needs) (search needs)
+          (row-told m (before (l .i) (a .ids .now)) (getD (a .ids .now) (l .i) 0) (getD (a .slabs .now) (l .i) 0) _ _ (c .before .number .ensures) (c .before .before .before .location-of .ensures)) (omega arith) ∙ l .inv .3,
     )
 
 returns-3 : tie.Need-returns-3 Inv-loop μ-loop
 returns-3 c =
     let l = c .before .loop in
-    let a = c .before .before .before .before .before .before .before .before .before .args in
+    let a = c .before .before .before .before .before .before .before .before .before .before .args in
     check-end _ _ (a .ids .now) _ _ (l .i) (search needs) ∙ l .inv .3
 
 pub check-spec : {M : Type 1} → statement M
@@ -94,10 +107,13 @@ check-spec =
     (tie.spec
     Inv-loop
     μ-loop
+    locations-of-requires
     loop-holds
     returns
     mul-bucket
     shared-slice-read-bucket
+    slice-aggregate-location-of
+    location-of-requires
     mul-number
     shared-slice-read-number
     array-read-number

@@ -1,10 +1,8 @@
--- `updates::number` meets its contract: each answer is the row of `rowNumber` that the tests on the way lead to. Assumes nothing.
-use mathlib.Core.List.{[]}
+-- `updates::number` meets its contract: each answer is the case of `numberBy` that the tests on the way lead to. Assumes nothing.
 use mathlib.Core.Path.{sym, _∙_}
 use borrow.Author.Tests.{not-true, not-false}
 use borrow.Author.Needs.{needs}
-use Rattle.model.specs.Memory.{memoryOf}
-use Rattle.updates.proofs.Laws.{row-not-held, row-repeated, row-large, row-bad, row-fine, bad-told}
+use Rattle.updates.proofs.Laws.{row-not-held, row-repeated, row-large, row-bad, row-fine}
 use Rattle.updates.proofs.number.Statement.{statement}
 use Rattle.updates.proofs.number.Tie as tie
 
@@ -35,27 +33,20 @@ returns-3 c =
     row-large _ _ _ _
     (sym (c .before .before .before .before .held-id .ensures) ∙ not-false (c .before .before .before .before .held-id .result) (c .before .before .before .if1 .left)) (sym (c .before .before .earlier .ensures) ∙ c .before .if2 .left) (c .if3 .taken)
 
-get-requires : tie.Need-get-requires
-get-requires c κs = search
-
 bad-location-requires : tie.Need-bad-location-requires
 bad-location-requires c κs = search
 
 returns-4 : tie.Need-returns-4
 returns-4 c =
-    let a = c .before .before .before .before .before .before .before .before .before .before .before .before .before .before .before .args in
-    let m = memoryOf (a .caps .ids) (a .caps .slots) (a .id-marks .now) (a .locations .now) (a .slot-marks .now) (a .owners .now) [] (a .tallies .now) in
-    row-bad m _ _ _
-    (sym (c .before .before .before .before .before .before .before .held-id .ensures) ∙ not-false (c .before .before .before .before .before .before .before .held-id .result) (c .before .before .before .before .before .before .if1 .left)) (sym (c .before .before .before .before .before .earlier .ensures) ∙ c .before .before .before .before .if2 .left) (c .before .before .before .if3 .left)
-    (bad-told m _ _ _ (c .before .before .get .ensures) (c .before .bad-location .ensures) ∙ c .if4 .taken)
+    row-bad _ _ _ _
+    (sym (c .before .before .before .before .before .before .held-id .ensures) ∙ not-false (c .before .before .before .before .before .before .held-id .result) (c .before .before .before .before .before .if1 .left)) (sym (c .before .before .before .before .earlier .ensures) ∙ c .before .before .before .if2 .left) (c .before .before .if3 .left)
+    (sym (c .before .bad-location .ensures) ∙ c .if4 .taken)
 
 returns-5 : tie.Need-returns-5
 returns-5 c =
-    let a = c .before .before .before .before .before .before .before .before .before .before .before .before .before .before .before .args in
-    let m = memoryOf (a .caps .ids) (a .caps .slots) (a .id-marks .now) (a .locations .now) (a .slot-marks .now) (a .owners .now) [] (a .tallies .now) in
-    row-fine m _ _ _
-    (sym (c .before .before .before .before .before .before .before .held-id .ensures) ∙ not-false (c .before .before .before .before .before .before .before .held-id .result) (c .before .before .before .before .before .before .if1 .left)) (sym (c .before .before .before .before .before .earlier .ensures) ∙ c .before .before .before .before .if2 .left) (c .before .before .before .if3 .left)
-    (bad-told m _ _ _ (c .before .before .get .ensures) (c .before .bad-location .ensures) ∙ c .if4 .left)
+    row-fine _ _ _ _
+    (sym (c .before .before .before .before .before .before .held-id .ensures) ∙ not-false (c .before .before .before .before .before .before .held-id .result) (c .before .before .before .before .before .if1 .left)) (sym (c .before .before .before .before .earlier .ensures) ∙ c .before .before .before .if2 .left) (c .before .before .if3 .left)
+    (sym (c .before .bad-location .ensures) ∙ c .if4 .left)
 
 pub number-spec : {M : Type 1} → statement M
 number-spec =
@@ -68,7 +59,6 @@ number-spec =
     earlier-requires
     returns-2
     returns-3
-    get-requires
     bad-location-requires
     returns-4
     returns-5)
