@@ -3,7 +3,7 @@
 use mathlib.Core.Path.{_≡_, ap, sym, _∙_}
 use mathlib.Core.Bool.{Bool, true, false, not, cond, _&&_, and-assoc}
 use mathlib.Core.List.{List, []}
-use Prim.Native.Nat.{ℕ, _*_, min}
+use Prim.Native.Nat.{ℕ, _*_, _≤_, min}
 use lib.Dec.{eqb}
 use lib.ListN.{length, replicate}
 use lib.Seq.{set-getD}
@@ -20,10 +20,10 @@ use Rattle.model.specs.Memory.{Memory, read, putWord, usedWords, memoryOf}
 use Rattle.model.specs.MemoryAfter.{memoryAfter, memoryEffect, memoryRebuilt, useSlots}
 use Rattle.tables.specs.Shapes.{allFit}
 use Rattle.tables.proofs.Lengths.{allFit-read}
-use Rattle.tables.proofs.Laws.{Ranges, capacities-range}
-use Rattle.rebuild.specs.Checks.{checked, verdictOf}
-use Rattle.rebuild.specs.declared.check.Wrong.{Wrong}
-use Rattle.rebuild.proofs.Checked.{verdict-is, rows-length}
+use Rattle.tables.proofs.Laws.{capacities-range}
+use Rattle.rows.specs.Checks.{refusedRow, verdictOf}
+use Rattle.rows.specs.declared.Wrong.{Wrong}
+use Rattle.rows.proofs.Checked.{verdict-is, rows-length}
 
 -- the tables of a memoryOf have their lengths
 abbrev pub fit : Memory → Bool
@@ -107,7 +107,7 @@ module _ (m : Memory) (is ls : List ℕ) where
 
   pub record Rows : Type 0 where
     pub shape : Lengths m
-    pub range : Ranges (m .ids) (m .slots)
+    pub ids-to : m .ids ≤ 65536
     pub good : badSlots (m .slots) ≡ false
     pub long : length ls ≡ length is
 
@@ -116,15 +116,15 @@ module _ (m : Memory) (is ls : List ℕ) where
       let b = and-true (fit m) (eqb (length ls) (length is)) e in
       let l = fit-lengths m (b .0) in
       let k = and-true (not (badIds (m .ids))) (not (badSlots (m .slots))) (l .caps) in
-      record { shape = l; range = capacities-range (m .ids) (m .slots) (l .caps); good = not-true _ (k .1); long = eqb-true _ _ (b .1) }
+      record { shape = l; ids-to = capacities-range (m .ids) (m .slots) (l .caps) .ids-to; good = not-true _ (k .1); long = eqb-true _ _ (b .1) }
 
-  module _ (e : fits ≡ true) (w : Wrong) (c : w ≡ checked (m .ids) (m .slots) is ls) where
+  module _ (e : fits ≡ true) (w : Wrong) (c : w ≡ refusedRow (m .ids) (m .slots) is ls) where
     verdict : refusal (read m) (rebuild is ls) ≡ verdictOf w
     unfolding test _⨾_ read
     verdict =
         let r = fits-rows e in
         rebuild-refusal ∙ ap (λ b. test (not b) wrongShape 0 ⨾ rows (read m) [] [] 0 (rowsOf is ls)) e
-        ∙ sym (verdict-is (read m) is ls (r .range .ids-to) (r .range .slots-to) (r .long)) ∙ ap verdictOf (sym c)
+        ∙ sym (verdict-is (read m) is ls (r .ids-to) (r .good) (r .long)) ∙ ap verdictOf (sym c)
 
     pub rebuild-refused : (w .number ≡ 0 → ⊥) → (refused (w .number) (w .row) ≡ answer (read m) (rebuild is ls)) × (m ≡ memoryAfter m (rebuild is ls))
     unfolding answer memoryAfter

@@ -1,6 +1,2 @@
-pub mod Zeros
-pub mod Bits
-pub mod Turns
-pub mod Repeats
-pub mod Checked
+pub mod Places
 pub mod Granted

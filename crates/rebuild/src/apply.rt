@@ -1,16 +1,16 @@
 // The rows written into cleared tables. Nothing can fail any more.
 ghost use mathlib.Core.Path.{_≡_};
 ghost use mathlib.Core.Bool.{false, cond};
-ghost use Prim.Native.Nat.{_/_, _≤_, min};
+ghost use Prim.Native.Nat.{_/_, min};
 ghost use lib.ListN.{length, replicate};
 ghost use Rattle.address.specs.Address.{badSlots, unit, isLocation};
 ghost use Rattle.model.specs.Tables.{write, writeAll, locationsOf};
 ghost use Rattle.model.specs.Rebuild.{rowsOf, heldBy, locatedBy, ownedBy};
 ghost use Rattle.model.specs.Memory.{putWord, usedWords};
 ghost use Rattle.model.specs.MemoryAfter.{useSlots};
-use crate::check::UNIT;
-use crate::check::is_location;
 use crate::clear;
+use address::SlabAddress;
+use address::Unpacked;
 use marks::HELD;
 
 // The used word of the ids: 1 where there is a row.
@@ -43,20 +43,20 @@ fn hold_slot(
     id: u64,
     location: u64,
 )
-    requires { ⌜ (badSlots slots ≡ false) × (slots ≤ 65536) ⌝ }
+    requires { ⌜ badSlots slots ≡ false ⌝ }
     ensures { λ _. ⌜ (now («slot_marks» .exit) ≡ write slots location 1 (now («slot_marks» .entry)))
         × (now (owners .exit) ≡ write slots location id (now (owners .entry)))
         × (now (tallies .exit) ≡ cond (isLocation slots location) (putWord (now (tallies .entry)) usedWords (location / unit) 1) (now (tallies .entry))) ⌝ }
 {
-    if !is_location(slots, location) {
+    let Unpacked::At(address) = SlabAddress::unpack(slots, location) else {
         return;
-    }
-    let allocator = (location / UNIT) as usize;
-    let base = (allocator - 1) * slots;
-    let slot = (location % UNIT) as usize;
+    };
+    let slab = address.slab;
+    let slot = address.slot;
+    let base = slab * slots;
     id_allocator::put(slot_marks, base + slot, HELD);
     tables::put(owners, base, slot, id);
-    tables::put(tallies, tables::USED, allocator, 1);
+    tables::put(tallies, tables::USED, slab + 1, 1);
 }
 
 // The rows' slots are held, and owned.
@@ -68,7 +68,7 @@ fn hold_slots(
     ids: &[u64],
     row_locations: &[u64],
 )
-    requires { ⌜ (badSlots slots ≡ false) × (slots ≤ 65536) × (length (now «row_locations») ≡ length (now ids)) ⌝ }
+    requires { ⌜ (badSlots slots ≡ false) × (length (now «row_locations») ≡ length (now ids)) ⌝ }
     ensures { λ _. ⌜ (now («slot_marks» .exit) ≡ writeAll slots (locationsOf (rowsOf (now (ids .entry)) (now («row_locations» .entry)))) 1 (now («slot_marks» .entry)))
         × (now (owners .exit) ≡ ownedBy slots (rowsOf (now (ids .entry)) (now («row_locations» .entry))) (now (owners .entry)))
         × (now (tallies .exit) ≡ useSlots slots (now (tallies .entry)) (locationsOf (rowsOf (now (ids .entry)) (now («row_locations» .entry))))) ⌝ }
@@ -92,7 +92,7 @@ pub(crate) fn write(
     ids: &[u64],
     row_locations: &[u64],
 )
-    requires { ⌜ (badSlots slots ≡ false) × (slots ≤ 65536) × (length (now «row_locations») ≡ length (now ids)) ⌝ }
+    requires { ⌜ (badSlots slots ≡ false) × (length (now «row_locations») ≡ length (now ids)) ⌝ }
     ensures { λ _. ⌜ (now («id_marks» .exit) ≡ heldBy (rowsOf (now (ids .entry)) (now («row_locations» .entry))) (replicate (length (now («id_marks» .entry))) 0))
         × (now (locations .exit) ≡ locatedBy (rowsOf (now (ids .entry)) (now («row_locations» .entry))) (replicate (length (now (locations .entry))) 0))
         × (now («slot_marks» .exit) ≡ writeAll slots (locationsOf (rowsOf (now (ids .entry)) (now («row_locations» .entry)))) 1 (replicate (length (now («slot_marks» .entry))) 0))

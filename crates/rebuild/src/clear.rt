@@ -1,28 +1,7 @@
-// A table of zeros.
+// All six tables of a store as zeros.
 ghost use mathlib.Core.Path.{_≡_};
 ghost use lib.ListN.{length, replicate};
 
-pub(crate) fn marks(table: &mut [u8])
-    ensures { λ _. ⌜ now (table .exit) ≡ replicate (length (now (table .entry))) 0 ⌝ }
-{
-    let mut i: usize = 0;
-    while i < table.len() {
-        table[i] = 0;
-        i += 1;
-    }
-}
-
-pub(crate) fn words(table: &mut [u64])
-    ensures { λ _. ⌜ now (table .exit) ≡ replicate (length (now (table .entry))) 0 ⌝ }
-{
-    let mut i: usize = 0;
-    while i < table.len() {
-        table[i] = 0;
-        i += 1;
-    }
-}
-
-// All six tables of a store.
 pub(crate) fn all(
     id_marks: &mut [u8],
     locations: &mut [u64],
@@ -38,10 +17,10 @@ pub(crate) fn all(
         × (now (batch .exit) ≡ replicate (length (now (batch .entry))) 0)
         × (now (tallies .exit) ≡ replicate (length (now (tallies .entry))) 0) ⌝ }
 {
-    marks(id_marks);
-    words(locations);
-    marks(slot_marks);
-    words(owners);
-    words(batch);
-    words(tallies);
+    tables::clear_marks(id_marks);
+    tables::clear_words(locations);
+    tables::clear_marks(slot_marks);
+    tables::clear_words(owners);
+    tables::clear_words(batch);
+    tables::clear_words(tallies);
 }

@@ -18,7 +18,6 @@ use refusal::Refusal;
 use tables::Capacities;
 
 mod apply;
-mod check;
 mod clear;
 
 pub enum Rebuilt {
@@ -85,7 +84,7 @@ pub fn rebuild(
     if !tables::both(fit, row_locations.len() == ids.len()) {
         return Rebuilt::Refused(Refusal::of(Refusal::WRONG_SHAPE));
     }
-    let wrong = check::first_refused(caps, ids, row_locations);
+    let wrong = rows::first_refused(caps, ids, row_locations);
     if wrong.number != 0 {
         return Rebuilt::Refused(Refusal::at(wrong.number, wrong.row));
     }

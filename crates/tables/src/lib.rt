@@ -7,11 +7,14 @@
 //
 // Any contents have a meaning; no function here asks anything of its caller.
 mod capacities;
+mod clear;
 mod entries;
 mod shapes;
 mod words;
 
 pub use capacities::Capacities;
+pub use clear::clear_marks;
+pub use clear::clear_words;
 pub use entries::bad_location;
 pub use entries::held_id;
 pub use entries::slab_marks;

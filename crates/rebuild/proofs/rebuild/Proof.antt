@@ -32,14 +32,7 @@ returns c =
     (ap (λ r. refused (r .number) (r .index)) (c .of .ensures) ∙ g .0, g .1)
 
 first-refused-requires : tie.Need-first-refused-requires
-first-refused-requires c κs =
-    let a = c .before .before .before .before .before .before .before .before .before .before .before .args in
-    let is = now (a .ids) in
-    let ls = now (a .row-locations) in
-    let m = memoryOf (a .caps .ids) (a .caps .slots) (now (a .id-marks)) (now (a .locations)) (now (a .slot-marks)) (now (a .owners)) (now (a .batch)) (now (a .tallies)) in
-    let fit = sym (c .before .both .ensures ∙ ap (λ b. b && eqb (length ls) (length is)) (c .before .before .all-fit .ensures)) ∙ not-false _ (c .if1 .left) in
-    let r = fits-rows m is ls fit in
-    (r .good, r .range .slots-to, r .long)
+first-refused-requires c κs = search needs
 
 at-requires : tie.Need-at-requires
 at-requires c κs = search needs
@@ -62,7 +55,7 @@ write-requires c κs =
     let m = memoryOf (a .caps .ids) (a .caps .slots) (now (a .id-marks)) (now (a .locations)) (now (a .slot-marks)) (now (a .owners)) (now (a .batch)) (now (a .tallies)) in
     let fit = sym (c .before .before .before .before .before .before .before .before .before .before .both .ensures ∙ ap (λ b. b && eqb (length ls) (length is)) (c .before .before .before .before .before .before .before .before .before .before .before .all-fit .ensures)) ∙ not-false _ (c .before .before .before .before .before .before .before .before .before .if1 .left) in
     let r = fits-rows m is ls fit in
-    (r .good, r .range .slots-to, r .long)
+    (r .good, r .long)
 
 same-length : tie.Need-same-length
 same-length c = search needs

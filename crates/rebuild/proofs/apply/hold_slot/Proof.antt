@@ -1,57 +1,50 @@
 -- `rebuild::apply::hold_slot` meets its contract: a number that is no location writes nothing; a location's place is its slab's part and its slot. Assumes nothing.
-use Prim.Native.Nat.{_-_, _*_, _+_, _/_, _%_, _≤_, pred}
-use native.Mathlib.Nat.{mul-le-mul-right}
-use mathlib.Core.Path.{_≡_, ap, sym, _∙_}
-use mathlib.Core.Bool.{cond}
-use lib.ListN.{set}
+use mathlib.Core.Path.{refl, ap, sym, _∙_}
+use mathlib.Core.Bool.{false, cond}
+use Prim.Native.Nat.{_/_}
 use native.Mathlib.Omega.{arith}
+use lib.ListN.{set}
 use denote.Ref.{now}
-use borrow.Author.Tests.{not-true, not-false}
 use Rattle.address.specs.Address.{unit}
 use Rattle.model.specs.Memory.{putWord, usedWords}
-use Rattle.model.specs.Tables.{at}
-use Rattle.model.proofs.Tables.{isLocation-says, write-set, write-none}
+use Rattle.model.proofs.Tables.{write-set, write-none}
+use Rattle.tables.proofs.LawsEntries.{else-is}
+use Rattle.rows.specs.Checks.{isAt}
+use Rattle.rows.proofs.Turns.{isAt-unpacked}
+use Rattle.rebuild.proofs.Places.{place}
 use borrow.Author.Needs.{needs}
 use Rattle.rebuild.proofs.apply.hold_slot.Statement.{statement}
 use Rattle.rebuild.proofs.apply.hold_slot.Tie as tie
 
-is-location-requires : tie.Need-is-location-requires
-is-location-requires c κs = search needs
+unpack-requires : tie.Need-unpack-requires
+unpack-requires c κs = search needs
+
+enum-known-address : tie.Need-enum-known-address
+enum-known-address c = search needs
 
 returns : tie.Need-returns
 returns c =
     let a = c .before .before .before .before .before .args in
-    let e = sym (c .before .is-location .ensures) ∙ not-true _ (c .if1 .taken) in (
+    let e = sym (isAt-unpacked (a .slots) (a .location) (c .before .before .before .before .before .pre)) ∙ ap isAt (sym (c .before .unpack .ensures)) ∙ else-is isAt false refl (λ r. refl) (c .before .unpack .result) (c .match .keys2) in (
       sym (write-none (a .slots) (a .location) 1 (now (a .slot-marks)) e),
       sym (write-none (a .slots) (a .location) (a .id) (now (a .owners)) e),
       sym (ap (λ b. cond b (putWord (now (a .tallies)) usedWords (a .location / unit) 1) (now (a .tallies))) e),
     )
 
-sub-base : tie.Need-sub-base
-sub-base c =
-    let a = c .before .before .before .before .before .args in
-    let v = isLocation-says (a .slots) (a .location) (sym (c .before .is-location .ensures) ∙ not-false _ (c .if1 .left)) in
-    omega (arith, v .low)
-
 mul-base : tie.Need-mul-base
-mul-base c =
-    let a = c .before .before .before .before .before .args in
-    let v = isLocation-says (a .slots) (a .location) (sym (c .before .is-location .ensures) ∙ not-false _ (c .if1 .left)) in
-    let h : a .location / unit - 1 ≤ 78 = omega (arith, v .high) in
-    record { fits = omega (arith, mul-le-mul-right (a .slots) h, c .before .before .before .before .before .pre .1) }
+mul-base c = record { fits = omega (arith, place _ _ _ (sym (c .before .before .before .unpack .ensures) ∙ c .before .address .given .1) .fits) }
 
 add-put : tie.Need-add-put
-add-put c =
-    let a = c .before .before .before .before .before .before .args in
-    let v = isLocation-says (a .slots) (a .location) (sym (c .before .before .is-location .ensures) ∙ not-false _ (c .before .if1 .left)) in
-    let h : a .location / unit - 1 ≤ 78 = omega (arith, v .high) in
-    omega (arith, mul-le-mul-right (a .slots) h, c .before .before .before .before .before .before .pre .1, v .slot)
+add-put c = record { fits = omega (arith, place _ _ _ (sym (c .before .before .before .before .unpack .ensures) ∙ c .before .before .address .given .1) .fits) }
 
 put-requires : tie.Need-put-requires
 put-requires c κs = search needs
 
 put-requires-2 : tie.Need-put-requires-2
 put-requires-2 c κs = search needs
+
+add-put-2 : tie.Need-add-put-2
+add-put-2 c = record { fits = omega (arith, place _ _ _ (sym (c .before .before .before .before .before .before .before .before .before .before .before .before .unpack .ensures) ∙ c .before .before .before .before .before .before .before .before .before .before .address .given .1) .few) }
 
 put-requires-3 : tie.Need-put-requires-3
 put-requires-3 c κs = search needs
@@ -67,27 +60,26 @@ same-length-3 c = search needs
 
 returns-2 : tie.Need-returns-2
 returns-2 c =
-    let a = c .before .before .before .before .before .before .before .before .before .before .before .before .before .before .before .before .before .args in
+    let a = c .before .before .before .before .before .before .before .before .before .before .before .before .before .before .before .before .before .before .before .args in
     let l = a .location in
-    let e = sym (c .before .before .before .before .before .before .before .before .before .before .before .before .before .is-location .ensures) ∙ not-false _ (c .before .before .before .before .before .before .before .before .before .before .before .before .if1 .left) in
-    let p : l / unit - 1 ≡ pred (l / unit) = omega arith in
-    let q : (l / unit - 1) * a .slots + l % unit ≡ at (a .slots) l = ap (λ x. x * a .slots + l % unit) p in (
-      c .before .before .before .before .before .before .before .before .before .before .put .ensures ∙ ap (λ n. set (now (a .slot-marks)) n 1) q ∙ sym (write-set (a .slots) l 1 (now (a .slot-marks)) e),
-      c .before .before .before .before .before .before .put2 .ensures ∙ ap (λ n. set (now (a .owners)) n (a .id)) q ∙ sym (write-set (a .slots) l (a .id) (now (a .owners)) e),
-      c .before .before .put3 .ensures ∙ sym (ap (λ b. cond b (putWord (now (a .tallies)) usedWords (l / unit) 1) (now (a .tallies))) e),
+    let p = place (a .slots) l _ (sym (c .before .before .before .before .before .before .before .before .before .before .before .before .before .before .before .unpack .ensures) ∙ c .before .before .before .before .before .before .before .before .before .before .before .before .before .address .given .1) in (
+      c .before .before .before .before .before .before .before .before .before .before .put .ensures ∙ ap (λ n. set (now (a .slot-marks)) n 1) (p .entry) ∙ sym (write-set (a .slots) l 1 (now (a .slot-marks)) (p .is)),
+      c .before .before .before .before .before .before .put2 .ensures ∙ ap (λ n. set (now (a .owners)) n (a .id)) (p .entry) ∙ sym (write-set (a .slots) l (a .id) (now (a .owners)) (p .is)),
+      c .before .before .put3 .ensures ∙ ap (λ n. putWord (now (a .tallies)) usedWords n 1) (p .top) ∙ sym (ap (λ b. cond b (putWord (now (a .tallies)) usedWords (l / unit) 1) (now (a .tallies))) (p .is)),
     )
 
 pub hold-slot-spec : {M : Type 1} → statement M
 hold-slot-spec =
     tie.close
     (tie.spec
-    is-location-requires
+    unpack-requires
+    enum-known-address
     returns
-    sub-base
     mul-base
     add-put
     put-requires
     put-requires-2
+    add-put-2
     put-requires-3
     same-length
     same-length-2

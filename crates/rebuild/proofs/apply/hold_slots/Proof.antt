@@ -9,7 +9,8 @@ use Rattle.model.specs.Tables.{writeAll, locationsOf}
 use Rattle.model.specs.Rebuild.{rowsOf, ownedBy}
 use Rattle.model.specs.MemoryAfter.{useSlots}
 use Rattle.model.proofs.Tables.{length-write}
-use Rattle.rebuild.proofs.Turns.{rest, rest-turn, rest-end, length-used}
+use Rattle.rows.proofs.Turns.{rest, rest-turn, rest-end}
+use Rattle.rebuild.proofs.Places.{length-used}
 use Rattle.rebuild.proofs.apply.hold_slots.Statement.{statement}
 use Rattle.rebuild.proofs.apply.hold_slots.Tie as tie
 
@@ -56,7 +57,7 @@ loop-again c =
     let i = b .i in
     let id = getD is i 0 in
     let l = getD ls i 0 in
-    let split = rest-turn is ls i (omega arith) (c .before .before .before .before .before .before .before .before .before .before .before .before .before .before .before .before .before .before .before .pre .2) in
+    let split = rest-turn is ls i (omega arith) (c .before .before .before .before .before .before .before .before .before .before .before .before .before .before .before .before .before .before .before .pre .1) in
     let e = c .before .before .before .before .before .before .hold-slot .ensures in (
       search needs,
       ap length (e .0) ∙ length-write (a .slots) l 1 (b .slot-marks) ∙ b .inv .1,

@@ -1,0 +1,4 @@
+pub mod Bits
+pub mod Turns
+pub mod Groups
+pub mod Checked
