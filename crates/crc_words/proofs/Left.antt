@@ -6,8 +6,8 @@ use Prim.Native.Nat.{ℕ, zero, suc, _+_, _-_, _*_, _/_, _%_, _^_, _≤_, _<_}
 use native.Mathlib.Nat.{mod-lt, add-mul, mul-right-comm, mul-div-mul-right, mul-add-mod-self-right}
 use native.Mathlib.Numerals.{add-one}
 use native.Mathlib.Omega.{arith}
-use lib.Pow.{pow-pos, pow-add, split, high, shr-shr}
-use lib.Bits.{bitXor, xor-shifted, xor-comm}
+use lib.Pow.{pow-pos, pow-add, split, high, shl-exact, shr-le, shr-shr}
+use lib.Bits.{bitXor, xor-lt, xor-shifted, xor-comm}
 use lib.ListN.{length, getD, drop, length-drop, drop-of-length-le}
 use lib.Seq.{drop-cons, drop-drop, getD-drop}
 use Rattle.little_endian.specs.LittleEndian.{word}
@@ -65,6 +65,33 @@ word-shr s b (suc h) =
     ∙ word-shr (drop 1 s) (drop-bytes 1 s b) h
     ∙ ap word (drop-drop h 1 s)
     ∙ ap (λ (n : ℕ). word (drop n s)) f
+
+-- the bytes from i on as the highest of the last four, q
+pub of-four : (s : List ℕ) → Bytes s → (c i p q : ℕ) → 4 ≤ length s → i ≤ length s → 8 * (length s - i) + p ≡ 32 → c < 2 ^ 32 → q < 2 ^ 32
+    → word (drop (length s - 4) s) ≡ word (drop (length s - 4 + 4) s) * 2 ^ 32 + q → steps 32 (up p (bitXor c (q / 2 ^ p))) ≡ crcOver c (drop i s)
+unfolding word
+of-four s b c i p q l m e lc lq f =
+    let a = length s - 4 in
+    let k = i - a in
+    let x = bitXor c (q / 2 ^ p) in
+    let n = 8 * (length s - i) in
+    let past : length s ≤ a + 4 = omega arith in
+    let none : word (drop (a + 4) s) ≡ 0 = ap word (drop-of-length-le s past) in
+    let four : word (drop a s) ≡ q = omega (arith, f, none) in
+    let g : p ≡ 8 * k = omega arith in
+    let j : a + k ≡ i = omega arith in
+    let v : q / 2 ^ p ≡ word (drop i s) =
+    ap₂ (λ (y z : ℕ). y / 2 ^ z) (sym four) g
+    ∙ word-shr (drop a s) (drop-bytes a s b) k
+    ∙ ap word (drop-drop k a s)
+    ∙ ap (λ (z : ℕ). word (drop z s)) j in
+    let lx : x < 2 ^ 32 = xor-lt 32 c (q / 2 ^ p) lc (omega (arith, shr-le q p)) in
+    let d : 32 ≡ p + n = omega arith in
+    ap₂ steps d (shl-exact 32 p 64 lx (omega arith))
+    ∙ steps-add p n (x * 2 ^ p)
+    ∙ ap (steps n) (steps-shift p x ∙ ap (bitXor c) v)
+    ∙ ap (λ (z : ℕ). steps (8 * z) (bitXor c (word (drop i s)))) (sym (length-drop i s))
+    ∙ sym (over-word (drop i s) (drop-bytes i s b) c)
 
 up-split : (x p m : ℕ) → m + p ≡ 64 → x * 2 ^ p ≡ bitXor (x / 2 ^ m * 2 ^ 64) (up p x)
 up-split x p m e =

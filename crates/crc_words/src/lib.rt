@@ -213,10 +213,21 @@ fn four_at(c: u64, s: &[u8], i: usize) -> u64
     four_bytes(c ^ quad(s, i))
 }
 
+// The register after the bytes from i on, fewer than four: they are the highest of the last four, and zeros before them, and before the
+// register, change nothing.
+fn of_four(c: u64, s: &[u8], i: usize) -> u32
+    requires { ⌜ (c < 2 ^ 32) × (4 ≤ length (now s)) × (i ≤ length (now s)) × (length (now s) - i < 4) ⌝ }
+    ensures { λ r. ⌜ r ≡ crcOver c (drop i (now (s .entry))) ⌝ }
+{
+    let zeros = 32 - 8 * (s.len() - i);
+    let last = quad(s, s.len() - 4) >> zeros;
+    four_bytes((c ^ last) << zeros) as u32
+}
+
 // Below so many bytes words are not worth while.
 const FEW: usize = 16;
 
-// The register after few bytes, four a turn.
+// The register after few bytes, four a turn; then one, or two or three at once.
 fn few(register: u32, s: &[u8]) -> u32
     ensures { λ r. ⌜ r ≡ crcOver register (now (s .entry)) ⌝ }
 {
@@ -226,7 +237,13 @@ fn few(register: u32, s: &[u8]) -> u32
         c = four_at(c, s, i);
         i += 4;
     }
-    singly(c, s, i)
+    if s.len() < 4 {
+        return singly(c, s, i);
+    }
+    if s.len() - i < 2 {
+        return singly(c, s, i);
+    }
+    of_four(c, s, i)
 }
 
 // The first h bytes as a word of their own: zeros before them, and before the register, change nothing.

@@ -37,7 +37,22 @@ singly-requires : tie.Need-singly-requires Inv-loop μ-loop
 singly-requires c κs = search needs
 
 returns : tie.Need-returns Inv-loop μ-loop
-returns c = c .singly .ensures ∙ c .before .before .loop .inv .1 .1
+returns c = c .singly .ensures ∙ c .before .before .before .loop .inv .1 .1
+
+sub-if2 : tie.Need-sub-if2 Inv-loop μ-loop
+sub-if2 c = search needs
+
+singly-requires-2 : tie.Need-singly-requires-2 Inv-loop μ-loop
+singly-requires-2 c κs = search needs
+
+returns-2 : tie.Need-returns-2 Inv-loop μ-loop
+returns-2 c = c .singly2 .ensures ∙ c .before .before .before .before .loop .inv .1 .1
+
+of-four-requires : tie.Need-of-four-requires Inv-loop μ-loop
+of-four-requires c κs = search needs
+
+returns-3 : tie.Need-returns-3 Inv-loop μ-loop
+returns-3 c = c .of-four .ensures ∙ c .before .before .before .before .loop .inv .1 .1
 
 pub few-spec : {M : Type 1} → statement M
 few-spec =
@@ -52,4 +67,9 @@ few-spec =
     loop-less
     loop-again
     singly-requires
-    returns)
+    returns
+    sub-if2
+    singly-requires-2
+    returns-2
+    of-four-requires
+    returns-3)
