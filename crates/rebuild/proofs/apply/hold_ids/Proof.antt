@@ -26,16 +26,16 @@ mul-put : tie.Need-mul-put Inv-loop μ-loop
 mul-put c = search needs
 
 shared-slice-read-put : tie.Need-shared-slice-read-put Inv-loop μ-loop
-shared-slice-read-put c = search needs
+shared-slice-read-put c = search
 
 put-requires : tie.Need-put-requires Inv-loop μ-loop
-put-requires c κs = search needs
+put-requires c κs = search
 
 mul-put-2 : tie.Need-mul-put-2 Inv-loop μ-loop
 mul-put-2 c = search needs
 
 shared-slice-read-put-2 : tie.Need-shared-slice-read-put-2 Inv-loop μ-loop
-shared-slice-read-put-2 c = search needs
+shared-slice-read-put-2 c = search
 
 mul-put-3 : tie.Need-mul-put-3 Inv-loop μ-loop
 mul-put-3 c = search needs
@@ -44,7 +44,7 @@ shared-slice-read-put-3 : tie.Need-shared-slice-read-put-3 Inv-loop μ-loop
 shared-slice-read-put-3 c = search needs
 
 put-requires-2 : tie.Need-put-requires-2 Inv-loop μ-loop
-put-requires-2 c κs = search needs
+put-requires-2 c κs = search
 
 add-i : tie.Need-add-i Inv-loop μ-loop
 add-i c = search needs
@@ -71,10 +71,10 @@ loop-again c =
     )
 
 same-length : tie.Need-same-length Inv-loop μ-loop
-same-length c = search needs
+same-length c = search
 
 same-length-2 : tie.Need-same-length-2 Inv-loop μ-loop
-same-length-2 c = search needs
+same-length-2 c = search
 
 returns : tie.Need-returns Inv-loop μ-loop
 returns c =

@@ -12,15 +12,14 @@ use Rattle.tables.proofs.LawsEntries.{else-is}
 use Rattle.rows.specs.Checks.{isAt}
 use Rattle.rows.proofs.Turns.{isAt-unpacked}
 use Rattle.rebuild.proofs.Places.{place}
-use borrow.Author.Needs.{needs}
 use Rattle.rebuild.proofs.apply.hold_slot.Statement.{statement}
 use Rattle.rebuild.proofs.apply.hold_slot.Tie as tie
 
 unpack-requires : tie.Need-unpack-requires
-unpack-requires c κs = search needs
+unpack-requires c κs = search
 
 enum-known-address : tie.Need-enum-known-address
-enum-known-address c = search needs
+enum-known-address c = search
 
 returns : tie.Need-returns
 returns c =
@@ -38,25 +37,25 @@ add-put : tie.Need-add-put
 add-put c = record { fits = omega (arith, place _ _ _ (sym (c .before .before .before .before .unpack .ensures) ∙ c .before .before .address .given .1) .fits) }
 
 put-requires : tie.Need-put-requires
-put-requires c κs = search needs
+put-requires c κs = search
 
 put-requires-2 : tie.Need-put-requires-2
-put-requires-2 c κs = search needs
+put-requires-2 c κs = search
 
 add-put-2 : tie.Need-add-put-2
 add-put-2 c = record { fits = omega (arith, place _ _ _ (sym (c .before .before .before .before .before .before .before .before .before .before .before .before .unpack .ensures) ∙ c .before .before .before .before .before .before .before .before .before .before .address .given .1) .few) }
 
 put-requires-3 : tie.Need-put-requires-3
-put-requires-3 c κs = search needs
+put-requires-3 c κs = search
 
 same-length : tie.Need-same-length
-same-length c = search needs
+same-length c = search
 
 same-length-2 : tie.Need-same-length-2
-same-length-2 c = search needs
+same-length-2 c = search
 
 same-length-3 : tie.Need-same-length-3
-same-length-3 c = search needs
+same-length-3 c = search
 
 returns-2 : tie.Need-returns-2
 returns-2 c =

@@ -31,7 +31,7 @@ mul-hold-slot : tie.Need-mul-hold-slot Inv-loop μ-loop
 mul-hold-slot c = search needs
 
 shared-slice-read-hold-slot : tie.Need-shared-slice-read-hold-slot Inv-loop μ-loop
-shared-slice-read-hold-slot c = search needs
+shared-slice-read-hold-slot c = search
 
 mul-hold-slot-2 : tie.Need-mul-hold-slot-2 Inv-loop μ-loop
 mul-hold-slot-2 c = search needs
@@ -40,7 +40,7 @@ shared-slice-read-hold-slot-2 : tie.Need-shared-slice-read-hold-slot-2 Inv-loop 
 shared-slice-read-hold-slot-2 c = search needs
 
 hold-slot-requires : tie.Need-hold-slot-requires Inv-loop μ-loop
-hold-slot-requires c κs = search needs
+hold-slot-requires c κs = search
 
 add-i : tie.Need-add-i Inv-loop μ-loop
 add-i c = search needs
@@ -69,13 +69,13 @@ loop-again c =
     )
 
 same-length : tie.Need-same-length Inv-loop μ-loop
-same-length c = search needs
+same-length c = search
 
 same-length-2 : tie.Need-same-length-2 Inv-loop μ-loop
-same-length-2 c = search needs
+same-length-2 c = search
 
 same-length-3 : tie.Need-same-length-3 Inv-loop μ-loop
-same-length-3 c = search needs
+same-length-3 c = search
 
 returns : tie.Need-returns Inv-loop μ-loop
 returns c =

@@ -10,16 +10,16 @@ use Rattle.rebuild.proofs.apply.write.Statement.{statement}
 use Rattle.rebuild.proofs.apply.write.Tie as tie
 
 all-requires : tie.Need-all-requires
-all-requires c κs = search needs
+all-requires c κs = search
 
 any-requires : tie.Need-any-requires
-any-requires c κs = search needs
+any-requires c κs = search
 
 put-requires : tie.Need-put-requires
-put-requires c κs = search needs
+put-requires c κs = search
 
 hold-ids-requires : tie.Need-hold-ids-requires
-hold-ids-requires c κs = search needs
+hold-ids-requires c κs = search
 
 hold-slots-requires : tie.Need-hold-slots-requires
 hold-slots-requires c κs = c .before .before .before .before .before .before .before .before .before .before .before .before .before .before .before .before .before .before .before .before .before .before .before .before .before .before .before .before .before .before .before .before .before .before .before .before .before .before .before .before .before .before .pre
@@ -37,7 +37,7 @@ same-length-4 : tie.Need-same-length-4
 same-length-4 c = search needs
 
 same-length-5 : tie.Need-same-length-5
-same-length-5 c = search needs
+same-length-5 c = search
 
 same-length-6 : tie.Need-same-length-6
 same-length-6 c = search needs
