@@ -5,7 +5,7 @@ ghost use Prim.Native.Nat.{_≤_, _<_};
 ghost use lib.ListN.{length};
 use crate::front;
 use crate::lines;
-use crate::rows;
+use crate::row_lines;
 use crate::runs;
 use answers::file;
 use answers::tally::Tally;
@@ -103,7 +103,7 @@ fn each_line(
             line,
         );
         tally = tally.with_line(name, line, agrees);
-        asked = rows::asked_after(line);
+        asked = row_lines::asked_after(line);
         at = file::next_line(text, at);
     }
     tally

@@ -3,7 +3,7 @@ use crate::call;
 use crate::counted;
 use crate::make;
 use crate::pokes;
-use crate::rows;
+use crate::row_lines;
 use answers::source;
 use answers::words;
 use tables::Capacities;
@@ -127,7 +127,7 @@ pub fn agrees(
     }
     let kind = kind_of(words::word(line, 0));
     if let Kind::Rows = kind {
-        return rows::agree(asked, row_ids, row_stores, row_lengths, row_locations, line);
+        return row_lines::agree(asked, row_ids, row_stores, row_lengths, row_locations, line);
     }
     speaks_of_tables(
         caps,

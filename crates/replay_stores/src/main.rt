@@ -12,7 +12,7 @@ mod lines;
 mod make;
 mod outcomes;
 mod pokes;
-mod rows;
+mod row_lines;
 mod runs;
 
 fn main() {

@@ -3,8 +3,8 @@ use mathlib.Core.Path.{_≡_}
 use Prim.Native.Nat.{_≤_, _-_}
 use lib.ListN.{length, length-set}
 use borrow.Author.Needs.{needs}
-use Rattle.replay_stores.proofs.rows.put_kinds.Statement.{statement}
-use Rattle.replay_stores.proofs.rows.put_kinds.Tie as tie
+use Rattle.replay_stores.proofs.row_lines.put_kinds.Statement.{statement}
+use Rattle.replay_stores.proofs.row_lines.put_kinds.Tie as tie
 
 abbrev Inv-loop : tie.InvT-loop
 Inv-loop stores₀ from to is-store end i₀ stores i = (end ≤ length stores) × (length stores ≡ length stores₀)
