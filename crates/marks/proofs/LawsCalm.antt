@@ -34,11 +34,24 @@ pub has-none : (mark : ℕ) (ms : List ℕ) → hasMark mark ms ≡ false → co
 unfolding hasMark
 has-none mark ms = none-by (countIf (isMark mark) ms)
 
--- ---- none is free
+some-of : (n : ℕ) → not (eqb n 0) ≡ true → 0 < n
+some-of zero e = clash (sym e)
+some-of (suc n) e = omega arith
+
+pub has-some : (mark : ℕ) (ms : List ℕ) → hasMark mark ms ≡ true → 0 < countIf (isMark mark) ms
+unfolding hasMark
+has-some mark ms = some-of (countIf (isMark mark) ms)
+
+-- ---- none is free, or one is
 pub none-free : (ms : List ℕ) → countIf (isMark 0) ms ≡ 0 → firstFree ms ≡ length ms
 none-free [] e = refl
 none-free (zero ∷ ms) e = absurd (omega arith)
 none-free (suc m ∷ ms) e = ap suc (none-free ms (rw (ne-eqb (suc m) 0 (λ h. omega arith)) at e))
+
+pub some-free : (ms : List ℕ) → 0 < countIf (isMark 0) ms → firstFree ms < length ms
+some-free [] h = omega arith
+some-free (zero ∷ ms) h = omega arith
+some-free (suc m ∷ ms) h = let r = some-free ms (rw (ne-eqb (suc m) 0 (λ e. omega arith)) at h) in omega arith
 
 -- ---- none is pending, where a 0 stays
 stays : (m : ℕ) (b : Bool) → eqb m 0 ≡ b → cond b 0 m ≡ m

@@ -40,6 +40,13 @@ firstFree-append [] ys e = omega arith
 firstFree-append (zero ∷ xs) ys e = absurd (omega arith)
 firstFree-append (suc m ∷ xs) ys e = let r = firstFree-append xs ys (omega arith) in omega arith
 
+-- a free one among the first n is the first
+pub firstFree-near : (ms : List ℕ) (n : ℕ) → firstFree (take n ms) < n → firstFree (take n ms) ≡ firstFree ms
+firstFree-near ms zero h = omega arith
+firstFree-near [] (suc n) h = refl
+firstFree-near (zero ∷ ms) (suc n) h = refl
+firstFree-near (suc m ∷ ms) (suc n) h = ap suc (firstFree-near ms n (omega arith))
+
 -- ---- smallestFree
 pub smallestFree-ge : (from : ℕ) (ms : List ℕ) → from ≤ smallestFree from ms
 smallestFree-ge from ms = omega arith

@@ -2,14 +2,14 @@
 //
 //     let first = search::smallest_free(&table, 0);
 ghost use mathlib.Core.Path.{_≡_};
-ghost use Prim.Native.Nat.{_<_, _≤_};
-ghost use lib.ListN.{length, take};
-ghost use Rattle.marks.specs.Marks.{smallestFree, lastTaken};
+ghost use Prim.Native.Nat.{_+_, _<_, _≤_};
+ghost use lib.ListN.{length, take, drop};
+ghost use Rattle.marks.specs.Marks.{firstFree, smallestFree, lastTaken};
 use marks::FREE;
 use marks::has;
 
 // So many marks a search for a free one passes over at once: where some are free, the next one is near.
-const BLOCK: usize = 32;
+const BLOCK: usize = 64;
 
 // Blocks that the search for the last taken one passes over, the wide ones first: the free ones above the tip are many.
 const WIDE: usize = 256;
@@ -18,10 +18,11 @@ const MIDDLE: usize = 64;
 
 const NARROW: usize = 16;
 
-// From `from` on, past the whole blocks of `width` in which none is free.
+// From `from` on, past the whole blocks of `width` in which none is free, to one that has a free one.
 fn skip(marks: &[u8], from: usize, width: usize) -> usize
     requires { ⌜ (from ≤ length (now marks)) × (0 < width) ⌝ }
-    ensures { λ r. ⌜ (r ≤ length (now (marks .entry))) × (smallestFree from (now (marks .entry)) ≡ smallestFree r (now (marks .entry))) ⌝ }
+    ensures { λ r. ⌜ (r ≤ length (now (marks .entry))) × (smallestFree from (now (marks .entry)) ≡ smallestFree r (now (marks .entry)))
+        × (r + width ≤ length (now (marks .entry)) → firstFree (take width (drop r (now (marks .entry)))) < width) ⌝ }
 {
     let mut i = from;
     while marks.len() - i >= width {
@@ -34,19 +35,36 @@ fn skip(marks: &[u8], from: usize, width: usize) -> usize
     i
 }
 
+// The number of the first free one of at most 255; as many as there are where there is none. No turn ends the loop, which would have to be
+// guessed.
+fn nearest(marks: &[u8]) -> u8
+    requires { ⌜ length (now marks) ≤ 255 ⌝ }
+    ensures { λ r. ⌜ r ≡ firstFree (now (marks .entry)) ⌝ }
+{
+    let none = marks.len() as u8;
+    let mut first = none;
+    let mut i: u8 = 0;
+    while i < none {
+        let at = if marks[i as usize] == FREE { i } else { none };
+        if at < first {
+            first = at;
+        }
+        i += 1;
+    }
+    first
+}
+
 // The smallest number from `from` on whose mark is 0; the length where there is none.
 fn first_from(marks: &[u8], from: usize) -> usize
     requires { ⌜ from ≤ length (now marks) ⌝ }
     ensures { λ r. ⌜ r ≡ smallestFree from (now (marks .entry)) ⌝ }
 {
-    let mut i = skip(marks, from, BLOCK);
-    while i < marks.len() {
-        if marks[i] == FREE {
-            return i;
-        }
-        i += 1;
+    let i = skip(marks, from, BLOCK);
+    if marks.len() - i < BLOCK {
+        return i + nearest(&marks[i..]) as usize;
     }
-    i
+    let end = i + BLOCK;
+    i + nearest(&marks[i..end]) as usize
 }
 
 // The smallest free number that is at least `from`. Where there is none, the length; where `from` is past it, `from`.

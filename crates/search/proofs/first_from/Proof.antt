@@ -1,55 +1,95 @@
--- `search::first_from` meets its contract. The loop's invariant: the search from here finds what the search from `from` finds. The measure is what
--- is left of the slice. Assumes nothing.
-use mathlib.Core.Path.{_≡_, sym, _∙_}
-use Prim.Native.Nat.{_≤_, _-_}
-use lib.ListN.{length}
+-- `search::first_from` meets its contract. Assumes nothing.
+use mathlib.Core.Path.{_≡_, sym, ap, _∙_}
+use Prim.Native.Nat.{_+_, _-_}
+use native.Mathlib.Omega.{arith}
+use denote.Ref.{now}
+use lib.ListN.{length, take, drop, length-drop}
+use lib.Seq.{take-all}
 use borrow.Author.Needs.{needs}
-use Rattle.marks.specs.Marks.{smallestFree}
-use Rattle.marks.proofs.LawsFree.{smallestFree-here, smallestFree-next, smallestFree-past}
+use Rattle.marks.specs.Marks.{firstFree}
+use Rattle.marks.proofs.LawsFree.{firstFree-near}
 use Rattle.search.proofs.first_from.Statement.{statement}
 use Rattle.search.proofs.first_from.Tie as tie
 
-abbrev Inv-loop : tie.InvT-loop
-Inv-loop marks from i₀ i = (i ≤ length marks) × (smallestFree from marks ≡ smallestFree i marks)
-
-abbrev μ-loop : tie.MeasureT-loop
-μ-loop marks from i₀ i = length marks - i
-
-skip-requires : tie.Need-skip-requires Inv-loop μ-loop
+skip-requires : tie.Need-skip-requires
 skip-requires c κs = search needs
 
-loop-holds : tie.Need-loop-holds Inv-loop μ-loop
-loop-holds c = c .skip .ensures
+sub-if1 : tie.Need-sub-if1
+sub-if1 c = search needs
 
-shared-slice-read-if1 : tie.Need-shared-slice-read-if1 Inv-loop μ-loop
-shared-slice-read-if1 c = search needs
+sub-nearest : tie.Need-sub-nearest
+sub-nearest c = search needs
 
-returns : tie.Need-returns Inv-loop μ-loop
-returns c = sym (c .before .before .before .loop .inv .1 ∙ smallestFree-here _ _ (c .if1 .taken))
+part-nearest-start : tie.Need-part-nearest-start
+part-nearest-start c = search needs
 
-add-i : tie.Need-add-i Inv-loop μ-loop
-add-i c = search needs
+part-nearest-end : tie.Need-part-nearest-end
+part-nearest-end c = search needs
 
-loop-less : tie.Need-loop-less Inv-loop μ-loop
-loop-less c = search needs
+nearest-requires : tie.Need-nearest-requires
+nearest-requires c κs = search needs
 
-loop-again : tie.Need-loop-again Inv-loop μ-loop
-loop-again c = (search needs, c .before .before .before .loop .inv .1 ∙ smallestFree-next _ _ (c .if1 .left))
+cast-result : tie.Need-cast-result
+cast-result c = search needs
 
-returns-2 : tie.Need-returns-2 Inv-loop μ-loop
-returns-2 c = sym (c .before .loop .inv .1 ∙ smallestFree-past _ _ (search needs))
+add-result : tie.Need-add-result
+add-result c = search needs
+
+returns : tie.Need-returns
+returns c =
+    let b = c .before .before .before in
+    let ms = now (b .before .before .args .marks) in
+    let i = b .skip .result in
+    omega (arith, c .nearest .ensures, b .skip .ensures .1, ap firstFree (take-all (length ms - i) (drop i ms) (omega (arith, length-drop i ms))))
+
+add-end : tie.Need-add-end
+add-end c = search needs
+
+sub-nearest-2 : tie.Need-sub-nearest-2
+sub-nearest-2 c = search needs
+
+part-nearest-start-2 : tie.Need-part-nearest-start-2
+part-nearest-start-2 c = search needs
+
+part-nearest-end-2 : tie.Need-part-nearest-end-2
+part-nearest-end-2 c = search needs
+
+nearest-requires-2 : tie.Need-nearest-requires-2
+nearest-requires-2 c κs = search needs
+
+cast-result-2 : tie.Need-cast-result-2
+cast-result-2 c = search needs
+
+add-result-2 : tie.Need-add-result-2
+add-result-2 c = search needs
+
+returns-2 : tie.Need-returns-2
+returns-2 c =
+    let b = c .before .before .before in
+    let ms = now (b .before .before .args .marks) in
+    let i = b .skip .result in
+    let width : i + 64 - i ≡ 64 = omega arith in
+    let near = firstFree-near (drop i ms) 64 (b .skip .ensures .2 (omega arith)) in
+    omega (arith, rw width at (c .nearest2 .ensures), b .skip .ensures .1, near)
 
 pub first-from-spec : {M : Type 1} → statement M
 first-from-spec =
     tie.close
     (tie.spec
-    Inv-loop
-    μ-loop
     skip-requires
-    loop-holds
-    shared-slice-read-if1
+    sub-if1
+    sub-nearest
+    part-nearest-start
+    part-nearest-end
+    nearest-requires
+    cast-result
+    add-result
     returns
-    add-i
-    loop-less
-    loop-again
+    add-end
+    sub-nearest-2
+    part-nearest-start-2
+    part-nearest-end-2
+    nearest-requires-2
+    cast-result-2
+    add-result-2
     returns-2)

@@ -4,11 +4,12 @@ use mathlib.Core.Path.{_≡_, sym, _∙_}
 use Prim.Native.Nat.{_+_, _≤_, _-_}
 use native.Mathlib.Omega.{arith}
 use denote.Ref.{now}
-use lib.ListN.{length, take, drop}
+use lib.ListN.{length, take, drop, length-drop}
+use lib.Seq.{length-take-le}
 use borrow.Author.Needs.{needs}
 use Rattle.marks.specs.Marks.{smallestFree}
 use Rattle.marks.proofs.LawsFree.{smallestFree-skip}
-use Rattle.marks.proofs.LawsCalm.{none-free, has-none}
+use Rattle.marks.proofs.LawsCalm.{none-free, some-free, has-none, has-some}
 use Rattle.search.proofs.skip.Statement.{statement}
 use Rattle.search.proofs.skip.Tie as tie
 
@@ -40,7 +41,14 @@ has-requires : tie.Need-has-requires Inv-loop μ-loop
 has-requires c κs = search needs
 
 returns : tie.Need-returns Inv-loop μ-loop
-returns c = c .before .before .before .before .loop .inv
+returns c =
+    let b = c .before .before .before .before in
+    let a = b .before .before .args in
+    let i = b .loop .i in
+    let width : i + a .width - i ≡ a .width = omega arith in
+    let part = take (a .width) (drop i (now (a .marks))) in
+    let some = some-free part (rw width at (has-some 0 _ (sym (c .before .has .ensures) ∙ c .if1 .taken))) in
+    (b .loop .inv .0, b .loop .inv .1, λ h. omega (arith, some, length-take-le (a .width) (drop i (now (a .marks))) (omega (arith, length-drop i (now (a .marks))))))
 
 loop-less : tie.Need-loop-less Inv-loop μ-loop
 loop-less c = search needs
@@ -54,7 +62,7 @@ loop-again c =
     (search needs, b .loop .inv .1 ∙ smallestFree-skip (now (a .marks)) (b .loop .i) (a .width) (omega arith) none)
 
 returns-2 : tie.Need-returns-2 Inv-loop μ-loop
-returns-2 c = c .before .loop .inv
+returns-2 c = (c .before .loop .inv .0, c .before .loop .inv .1, λ h. omega arith)
 
 pub skip-spec : {M : Type 1} → statement M
 skip-spec =
