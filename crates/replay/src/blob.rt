@@ -2,7 +2,7 @@
 ghost use mathlib.Core.Path.{_≡_};
 ghost use lib.ListN.{length};
 use crate::digits;
-use crate::front;
+use answers::front;
 use answers::words;
 use answers::words::Numeral;
 use answers::words::Pair;

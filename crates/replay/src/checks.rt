@@ -1,6 +1,6 @@
 // crc BYTES: ok NUMBER
 use crate::blob;
-use crate::front;
+use answers::front;
 use answers::told;
 use answers::words;
 

@@ -2,8 +2,8 @@
 // uncookie FANOUT BYTES: ok | REFUSED
 use crate::blob;
 use crate::digits;
-use crate::front;
 use crate::lent;
+use answers::front;
 use answers::told;
 use answers::words;
 use answers::words::Numeral;

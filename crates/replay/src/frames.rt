@@ -2,8 +2,8 @@
 // unframe SIZE BYTES TAIL: ok COUNT | REFUSED, of the slot that holds BYTES, zeros, TAIL.
 use crate::blob;
 use crate::digits;
-use crate::front;
 use crate::lent;
+use answers::front;
 use answers::told;
 use answers::words;
 use answers::words::Numeral;

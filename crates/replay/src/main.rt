@@ -13,7 +13,6 @@ mod cookies;
 mod cutoffs;
 mod digits;
 mod frames;
-mod front;
 mod lent;
 
 fn main() {

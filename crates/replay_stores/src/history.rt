@@ -3,11 +3,11 @@
 ghost use mathlib.Core.Path.{_≡_};
 ghost use Prim.Native.Nat.{_≤_, _<_};
 ghost use lib.ListN.{length};
-use crate::front;
 use crate::lines;
 use crate::row_lines;
 use crate::runs;
 use answers::file;
+use answers::front;
 use answers::tally::Tally;
 use answers::words;
 use answers::words::Numeral;

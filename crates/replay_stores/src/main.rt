@@ -6,7 +6,6 @@
 // data/ and stdout are made by `oracle/replay_data`. The grammar is in oracle/answers/README.md.
 mod call;
 mod counted;
-mod front;
 mod history;
 mod lines;
 mod make;

@@ -1,7 +1,7 @@
 // Makes a call on the store, and compares its outcome with the line's answer.
 use crate::call::Call;
-use crate::front;
 use crate::outcomes;
+use answers::front;
 use answers::ratios;
 use tables::Capacities;
 

@@ -1,6 +1,6 @@
 // Settings cookies.
-use crate::front;
 use crate::say;
+use answers::front;
 use settings::PersistentSettings;
 use settings::Stored;
 use settings::Verified;

@@ -4,7 +4,6 @@ mod addresses;
 mod checks;
 mod cookies;
 mod frames;
-mod front;
 mod say;
 
 fn main() {

@@ -2,8 +2,8 @@ use mathlib.Core.Path.{sym}
 use native.Mathlib.Nat.{le-of-lt}
 use lib.Seq.{length-take-le}
 use borrow.Author.Needs.{needs}
-use Rattle.replay.proofs.front.first_mut.Statement.{statement}
-use Rattle.replay.proofs.front.first_mut.Tie as tie
+use Rattle.answers.proofs.front.first_words_mut.Statement.{statement}
+use Rattle.answers.proofs.front.first_words_mut.Tie as tie
 
 slice-aggregate-result : tie.Need-slice-aggregate-result
 slice-aggregate-result c = sym (length-take-le _ _ (le-of-lt (c .before .if1 .taken)))
@@ -14,5 +14,5 @@ returns c = search needs
 returns-2 : tie.Need-returns-2
 returns-2 c = search needs
 
-pub first-mut-spec : {M : Type 1} → statement M
-first-mut-spec = tie.close (tie.spec slice-aggregate-result returns returns-2)
+pub first-words-mut-spec : {M : Type 1} → statement M
+first-words-mut-spec = tie.close (tie.spec slice-aggregate-result returns returns-2)

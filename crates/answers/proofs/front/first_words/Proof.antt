@@ -2,8 +2,8 @@ use mathlib.Core.Path.{sym}
 use native.Mathlib.Nat.{le-of-lt}
 use lib.Seq.{length-take-le}
 use borrow.Author.Needs.{needs}
-use Rattle.replay_stores.proofs.front.first_words.Statement.{statement}
-use Rattle.replay_stores.proofs.front.first_words.Tie as tie
+use Rattle.answers.proofs.front.first_words.Statement.{statement}
+use Rattle.answers.proofs.front.first_words.Tie as tie
 
 slice-aggregate-result : tie.Need-slice-aggregate-result
 slice-aggregate-result c = sym (length-take-le _ _ (le-of-lt (c .before .if1 .taken)))
