@@ -11,6 +11,9 @@ use marks::has;
 // So many marks a search for a free one passes over at once: where some are free, the next one is near.
 const BLOCK: usize = 64;
 
+// Where fewer are left, so many.
+const FEW: usize = 16;
+
 // Blocks that the search for the last taken one passes over, the wide ones first: the free ones above the tip are many.
 const WIDE: usize = 256;
 
@@ -54,14 +57,29 @@ fn nearest(marks: &[u8]) -> u8
     first
 }
 
-// The smallest number from `from` on whose mark is 0; the length where there is none.
+// The smallest number from `from` on whose mark is 0; the length where there is none. For few marks: the loop ends where one is found.
+fn first_of_few(marks: &[u8], from: usize) -> usize
+    requires { ⌜ from ≤ length (now marks) ⌝ }
+    ensures { λ r. ⌜ r ≡ smallestFree from (now (marks .entry)) ⌝ }
+{
+    let mut i = skip(marks, from, FEW);
+    while i < marks.len() {
+        if marks[i] == FREE {
+            return i;
+        }
+        i += 1;
+    }
+    i
+}
+
+// The same, for any number of them.
 fn first_from(marks: &[u8], from: usize) -> usize
     requires { ⌜ from ≤ length (now marks) ⌝ }
     ensures { λ r. ⌜ r ≡ smallestFree from (now (marks .entry)) ⌝ }
 {
     let i = skip(marks, from, BLOCK);
     if marks.len() - i < BLOCK {
-        return i + nearest(&marks[i..]) as usize;
+        return first_of_few(marks, i);
     }
     let end = i + BLOCK;
     i + nearest(&marks[i..end]) as usize

@@ -1,12 +1,10 @@
 -- `search::first_from` meets its contract. Assumes nothing.
-use mathlib.Core.Path.{_≡_, sym, ap, _∙_}
+use mathlib.Core.Path.{_≡_, _∙_}
 use Prim.Native.Nat.{_+_, _-_}
 use native.Mathlib.Omega.{arith}
 use denote.Ref.{now}
-use lib.ListN.{length, take, drop, length-drop}
-use lib.Seq.{take-all}
+use lib.ListN.{drop}
 use borrow.Author.Needs.{needs}
-use Rattle.marks.specs.Marks.{firstFree}
 use Rattle.marks.proofs.LawsFree.{firstFree-near}
 use Rattle.search.proofs.first_from.Statement.{statement}
 use Rattle.search.proofs.first_from.Tie as tie
@@ -16,6 +14,15 @@ skip-requires c κs = search needs
 
 sub-if1 : tie.Need-sub-if1
 sub-if1 c = search needs
+
+first-of-few-requires : tie.Need-first-of-few-requires
+first-of-few-requires c κs = search needs
+
+returns : tie.Need-returns
+returns c = search needs
+
+add-end : tie.Need-add-end
+add-end c = search needs
 
 sub-nearest : tie.Need-sub-nearest
 sub-nearest c = search needs
@@ -35,34 +42,6 @@ cast-result c = search needs
 add-result : tie.Need-add-result
 add-result c = search needs
 
-returns : tie.Need-returns
-returns c =
-    let b = c .before .before .before in
-    let ms = now (b .before .before .args .marks) in
-    let i = b .skip .result in
-    omega (arith, c .nearest .ensures, b .skip .ensures .1, ap firstFree (take-all (length ms - i) (drop i ms) (omega (arith, length-drop i ms))))
-
-add-end : tie.Need-add-end
-add-end c = search needs
-
-sub-nearest-2 : tie.Need-sub-nearest-2
-sub-nearest-2 c = search needs
-
-part-nearest-start-2 : tie.Need-part-nearest-start-2
-part-nearest-start-2 c = search needs
-
-part-nearest-end-2 : tie.Need-part-nearest-end-2
-part-nearest-end-2 c = search needs
-
-nearest-requires-2 : tie.Need-nearest-requires-2
-nearest-requires-2 c κs = search needs
-
-cast-result-2 : tie.Need-cast-result-2
-cast-result-2 c = search needs
-
-add-result-2 : tie.Need-add-result-2
-add-result-2 c = search needs
-
 returns-2 : tie.Need-returns-2
 returns-2 c =
     let b = c .before .before .before in
@@ -70,7 +49,7 @@ returns-2 c =
     let i = b .skip .result in
     let width : i + 64 - i ≡ 64 = omega arith in
     let near = firstFree-near (drop i ms) 64 (b .skip .ensures .2 (omega arith)) in
-    omega (arith, rw width at (c .nearest2 .ensures), b .skip .ensures .1, near)
+    omega (arith, rw width at (c .nearest .ensures), b .skip .ensures .1, near)
 
 pub first-from-spec : {M : Type 1} → statement M
 first-from-spec =
@@ -78,18 +57,13 @@ first-from-spec =
     (tie.spec
     skip-requires
     sub-if1
+    first-of-few-requires
+    returns
+    add-end
     sub-nearest
     part-nearest-start
     part-nearest-end
     nearest-requires
     cast-result
     add-result
-    returns
-    add-end
-    sub-nearest-2
-    part-nearest-start-2
-    part-nearest-end-2
-    nearest-requires-2
-    cast-result-2
-    add-result-2
     returns-2)
