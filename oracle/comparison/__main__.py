@@ -7,7 +7,7 @@ import time
 
 from comparison import answers, any_tables, cutoffs, differences, histories, large, leaves, replay, tiny
 from comparison import truncations
-from comparison.beside import out_of_order, show
+from comparison.beside import LIBRARY, out_of_order, show
 
 BATCHES = 100
 
@@ -84,7 +84,8 @@ def main():
     shown, wrong = differences.run()
     report.part("listed differences, each shown on both sides", shown, wrong)
     lines, rusts, wrong = answers.run(write=False)
-    report.part(f"answers/: {lines} lines, {rusts} of them the Rust's", lines, wrong)
+    whose = "the Rust's and the library's" if LIBRARY else "the Rust's"
+    report.part(f"answers/: {lines} lines, {rusts} of them {whose}", lines, wrong)
     answered, wrong = replay.run()
     report.part("answers/ read back and replayed on the model", answered, wrong)
     compare_order(report)

@@ -14,7 +14,7 @@ import model
 from model import DONE, HELD, KEEP, SLABS, SLAB_SIZES, Store, refused
 
 from comparison import any_tables, cutoffs, leaves, spoken
-from comparison.beside import HERE, ask
+from comparison.beside import HERE, LIBRARY, ask, library_says
 from comparison.histories import OTHER_CLASS_IN_RUST, RATIOS, T_OF_THE_RUST, asserts_in_rust, some_lengths
 
 DIRECTORY = os.path.join(HERE, "..", "answers")
@@ -22,18 +22,23 @@ LARGEST_SLOT_LISTED = 98_304
 
 
 class Lists:
-    """Lines of one file. A granted call is asked of the Rust too, and its answer is the one written."""
+    """Lines of one file. A granted call is asked of the Rust too, and its answer is the one written. The library, where it is asked, is asked
+    a store's refused ones besides."""
 
     def __init__(self, mode, title):
         self.mode = mode
         self.head = [f"# {title}", "# Made by: python3 -m comparison.answers write (in oracle/). Grammar: README.md."]
         self.lines = []
-        self.asked, self.expected = [], []
+        self.of_rust, self.of_library = [], []
 
     def ask(self, line, expected):
-        """A line for the Rust alone, and what it has to answer for the lines beside it to be the Rust's."""
-        self.asked.append(line)
-        self.expected.append(expected)
+        """A line for a driver, and what it has to answer for the lines beside it to be the Rust's."""
+        self.of_rust.append((line, expected))
+        self.of_library.append((line, library_says(expected)))
+
+    def ask_library(self, line, refusal):
+        """A line that the Rust does not refuse, or not so."""
+        self.of_library.append((line, f"refused {refusal.number} {refusal.index}"))
 
     def refuse(self, call, refusal):
         self.lines.append(f"model {call} refused {refusal.number} {refusal.index}")
@@ -42,12 +47,16 @@ class Lists:
         self.lines.append(f"rust {call} {answer}")
 
     def finish(self):
-        """The lines that the Rust answers otherwise: none, if every `rust` line is what it just said."""
-        wrong = []
-        for line, expected, rust in zip(self.asked, self.expected, ask(self.mode, self.asked)):
-            if not (rust == expected or (expected.endswith("*") and rust.startswith(expected[:-1]))):
-                wrong.append(f"{line[:200]}\n    listed {expected[:300]}\n    rust   {rust[:300]}")
+        """The lines that are answered otherwise: none, if every `rust` line is what the Rust just said."""
         assert all(len(line) < 1_000 for line in self.lines)
+        wrong = self.wrong("rust", self.of_rust)
+        return wrong + self.wrong("library", self.of_library, LIBRARY) if LIBRARY else wrong
+
+    def wrong(self, whose, asked, driver=None):
+        wrong = []
+        for (line, expected), answer in zip(asked, ask(self.mode, [line for line, _ in asked], driver)):
+            if not (answer == expected or (expected.endswith("*") and answer.startswith(expected[:-1]))):
+                wrong.append(f"{line[:200]}\n    listed {expected[:300]}\n    {whose} {answer[:300]}")
         return wrong
 
     def text(self):
@@ -230,6 +239,8 @@ class Listed:
 
     def note(self, call, answer, rust_line, rust_answer, listed):
         if refused(answer):
+            if rust_line is not None:
+                self.lists.ask_library(rust_line, answer)
             self.lists.refuse(call, answer)
         else:
             if rust_line is not None:
@@ -238,7 +249,8 @@ class Listed:
         return not refused(answer)
 
     def fresh(self):
-        self.note("fresh", self.store.fresh(), "fresh", "ok", "ok")
+        line = f"fresh {self.store.ids} {self.store.slots}"
+        self.note("fresh", self.store.fresh(), line, "ok", "ok")
 
     def new_id(self):
         answer = self.store.new_id()
@@ -554,6 +566,9 @@ class ModelLists(Lists):
 
     def ask(self, line, expected):
         pass
+
+    def ask_library(self, line, refusal):
+        """Its tables are poked, which no driver does: `replay_stores` makes these calls."""
 
     def grant(self, call, answer):
         self.lines.append(f"model {call} {answer}")

@@ -139,7 +139,8 @@ fn unpack(location: u64) -> String {
     })
 }
 
-/// Up to this tip a cutoff is read off a defrag list too, where a slab can have it: with nothing taken its tip is at most 1.
+/// Up to this tip a cutoff is read off a defrag list too, where a slab can have it: with nothing taken its tip is at most 1, and a tip of 0 lists
+/// nothing.
 const LISTED: usize = 120;
 
 /// Asked for; and listed from, which has to agree.
@@ -151,7 +152,7 @@ fn cutoff(live: usize, tip: usize, ratio: f32) -> String {
         [1, slot] => format!("from {slot}"),
         _ => "no answer".into(),
     });
-    let has_list = tip <= LISTED && (live > 0 || tip <= 1);
+    let has_list = tip <= LISTED && (live > 0 || tip == 1);
     match if has_list { listed_from(live, tip, ratio) } else { said.clone() } {
         listed if listed == said => said,
         listed => format!("{said}, but listed {listed}"),
