@@ -1,5 +1,4 @@
 pub mod Xor
 pub mod Linear
 pub mod Agree
-pub mod Away
 pub mod Laws

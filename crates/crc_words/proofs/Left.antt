@@ -1,39 +1,22 @@
 -- The register at the end of a slice, from what is pending at a place of it.
 -- Assumes nothing.
-use mathlib.Core.Path.{_≡_, sym, ap, ap₂, _∙_}
+use mathlib.Core.Path.{_≡_, sym, ap, ap₂, _∙_, subst}
 use mathlib.Core.List.{List}
 use Prim.Native.Nat.{ℕ, zero, suc, _+_, _-_, _*_, _/_, _%_, _^_, _≤_, _<_}
 use native.Mathlib.Nat.{mod-lt, add-mul, mul-right-comm, mul-div-mul-right, mul-add-mod-self-right}
-use native.Mathlib.Numerals.{add-one}
 use native.Mathlib.Omega.{arith}
-use lib.Pow.{pow-pos, pow-add, split, high, shl-exact, shr-le, shr-shr}
-use lib.Bits.{bitXor, xor-lt, xor-shifted, xor-comm}
-use lib.ListN.{length, getD, drop, length-drop, drop-of-length-le}
-use lib.Seq.{drop-cons, drop-drop, getD-drop}
+use lib.Pow.{pow-pos, pow-add, split, high, shr-shr}
+use lib.Bits.{bitXor, xor-shifted, xor-comm}
+use lib.ListN.{length, getD, take, drop, length-drop, drop-of-length-le}
+use lib.Seq.{drop-drop, getD-drop, take-all}
 use Rattle.little_endian.specs.LittleEndian.{word}
 use Rattle.little_endian.proofs.Laws.{Bytes, drop-bytes, word-cons}
 use Rattle.crc_steps.specs.Crc32.{steps, crcOver}
 use Rattle.crc_words.specs.Fold.{up, over, num, Turn, left}
-use Rattle.crc_steps.proofs.Linear.{read-in, steps-add, steps-shift, steps-zero}
-use Rattle.crc_steps.proofs.Laws.{over-word}
+use Rattle.crc_steps.proofs.Linear.{steps-add, steps-shift, steps-zero}
+use Rattle.crc_steps.proofs.Laws.{over-word, crcOver-lt}
 use Rattle.crc_words.proofs.Bytes.{word-head}
 use Rattle.crc_steps.proofs.Agree.{shifted-xor}
-
--- a byte, and the register after it
-pub crc-first : (s : List ℕ) (i : ℕ) → i < length s → (c : ℕ) → crcOver c (drop i s) ≡ crcOver (steps 8 (bitXor c (getD s i 0))) (drop (i + 1) s)
-unfolding crcOver
-crc-first s i h c = rw (add-one, drop-cons s i 0)
-
--- four bytes, and the register after them
-pub crc-four : (s : List ℕ) → Bytes s → (i q c : ℕ) → i + 4 ≤ length s → q < 2 ^ 32 → word (drop i s) ≡ word (drop (i + 4) s) * 2 ^ 32 + q
-    → crcOver c (drop i s) ≡ crcOver (steps 32 (bitXor c q)) (drop (i + 4) s)
-crc-four s h i q c l b e =
-    let m = 8 * length (drop (i + 4) s) in
-    let n : 8 * length (drop i s) ≡ 32 + m = simp length-drop (omega arith) in
-    over-word (drop i s) (drop-bytes i s h) c
-    ∙ ap₂ (λ (k x : ℕ). steps k (bitXor c x)) n e
-    ∙ sym (read-in 32 m c q (word (drop (i + 4) s)) b)
-    ∙ sym (over-word (drop (i + 4) s) (drop-bytes (i + 4) s h) (steps 32 (bitXor c q)))
 
 -- a word is read
 pub taken : (s : List ℕ) (i k w z r : ℕ) → Turn k w z r → i + 8 ≤ length s → k ≤ 8 * (length s - (i + 8)) → w < 2 ^ 64
@@ -65,33 +48,6 @@ word-shr s b (suc h) =
     ∙ word-shr (drop 1 s) (drop-bytes 1 s b) h
     ∙ ap word (drop-drop h 1 s)
     ∙ ap (λ (n : ℕ). word (drop n s)) f
-
--- the bytes from i on as the highest of the last four, q
-pub of-four : (s : List ℕ) → Bytes s → (c i p q : ℕ) → 4 ≤ length s → i ≤ length s → 8 * (length s - i) + p ≡ 32 → c < 2 ^ 32 → q < 2 ^ 32
-    → word (drop (length s - 4) s) ≡ word (drop (length s - 4 + 4) s) * 2 ^ 32 + q → steps 32 (up p (bitXor c (q / 2 ^ p))) ≡ crcOver c (drop i s)
-unfolding word
-of-four s b c i p q l m e lc lq f =
-    let a = length s - 4 in
-    let k = i - a in
-    let x = bitXor c (q / 2 ^ p) in
-    let n = 8 * (length s - i) in
-    let past : length s ≤ a + 4 = omega arith in
-    let none : word (drop (a + 4) s) ≡ 0 = ap word (drop-of-length-le s past) in
-    let four : word (drop a s) ≡ q = omega (arith, f, none) in
-    let g : p ≡ 8 * k = omega arith in
-    let j : a + k ≡ i = omega arith in
-    let v : q / 2 ^ p ≡ word (drop i s) =
-    ap₂ (λ (y z : ℕ). y / 2 ^ z) (sym four) g
-    ∙ word-shr (drop a s) (drop-bytes a s b) k
-    ∙ ap word (drop-drop k a s)
-    ∙ ap (λ (z : ℕ). word (drop z s)) j in
-    let lx : x < 2 ^ 32 = xor-lt 32 c (q / 2 ^ p) lc (omega (arith, shr-le q p)) in
-    let d : 32 ≡ p + n = omega arith in
-    ap₂ steps d (shl-exact 32 p 64 lx (omega arith))
-    ∙ steps-add p n (x * 2 ^ p)
-    ∙ ap (steps n) (steps-shift p x ∙ ap (bitXor c) v)
-    ∙ ap (λ (z : ℕ). steps (8 * z) (bitXor c (word (drop i s)))) (sym (length-drop i s))
-    ∙ sym (over-word (drop i s) (drop-bytes i s b) c)
 
 up-split : (x p m : ℕ) → m + p ≡ 64 → x * 2 ^ p ≡ bitXor (x / 2 ^ m * 2 ^ 64) (up p x)
 up-split x p m e =
@@ -136,10 +92,6 @@ done s i z e =
     let f : 8 * (length s - i) ≡ 0 = omega arith in
     ap₂ (λ (n : ℕ) (x : List ℕ). steps n (bitXor (word x) z)) f (drop-of-length-le s l) ∙ steps-zero z
 
-pub all-done : (s : List ℕ) (i c : ℕ) → length s ≤ i → crcOver c (drop i s) ≡ c
-unfolding crcOver
-all-done s i c l = ap (crcOver c) (drop-of-length-le s l)
-
 small : (a b c d e : ℕ) → a < 2 ^ 64 → num a b c d e < 2 ^ 32 → num a b c d e ≡ a
 unfolding num over
 small a b c d e l h =
@@ -153,6 +105,23 @@ pub ended : (s : List ℕ) (i w z a b c d e : ℕ) → Turn 0 w z (num a b c d e
 ended s i w z a b c d e t l m f h k =
     let r : left s i z ≡ num a b c d e = taken s i 0 w z (num a b c d e) t (omega arith) (omega arith) m f ∙ done s (i + 8) (num a b c d e) l in
     r ∙ small a b c d e h (omega arith)
+
+-- no bytes, and fewer than a word has
+pub no-bytes : (s : List ℕ) (c : ℕ) → length s ≡ 0 → c ≡ crcOver c s
+unfolding crcOver
+no-bytes s c e = let l : length s ≤ 0 = omega arith in sym (ap (crcOver c) (drop-of-length-le s l))
+
+pub fewer : (s : List ℕ) → Bytes s → (r p w a b c d e : ℕ) → 8 * length s + p ≡ 64 → r < 2 ^ 32 → w ≡ word (take 8 s)
+    → Turn 0 (up p w) (num (up p r) (r / 2 ^ (8 * length s)) 0 0 0) (num a b c d e) → a < 2 ^ 64 → (a ≡ crcOver r s) × (a < 2 ^ 32)
+unfolding word
+fewer s h r p w a b c d e l lr f t la =
+    let n = length s in
+    let le : n ≤ 8 = omega arith in
+    let g : word s ≡ word (drop 8 s) * 2 ^ 64 + w = omega (arith, f, ap word (take-all 8 s le), ap word (drop-of-length-le s le)) in
+    let m : left s n (num a b c d e) ≡ crcOver r s = headed s h r n p 0 w (num a b c d e) l (omega arith) (omega arith) g t in
+    let z : num a b c d e ≡ crcOver r s = sym (done s n (num a b c d e) (omega arith)) ∙ m in
+    let v : num a b c d e ≡ a = small a b c d e la (rw z (crcOver-lt r s lr h)) in
+    (sym v ∙ z, subst (λ (x : ℕ). x < 2 ^ 32) (sym z ∙ v) (crcOver-lt r s lr h))
 
 -- two bytes at a time, and the same place written otherwise
 pub word-at : (s : List ℕ) (i j : ℕ) → i ≡ j → word (drop i s) ≡ word (drop j s)

@@ -25,5 +25,5 @@ pub lin-fifth : Lin fifth
 unfolding fifth
 lin-fifth =
     let u = both id (lup 1 id) in
-    let v = both id (lup 2 id) in
-    both (both (both (both (lup 1 u) (lup 3 u)) (lup 7 id)) (lup 17 (both v (lup 4 v)))) (lup 26 (both u (lup 4 u)))
+    let v = both u (lup 4 u) in
+    both (both (both (lup 1 u) (lup 3 u)) (lup 7 id)) (both (both (lup 17 v) (lup 18 v)) (lup 26 v))

@@ -12,15 +12,40 @@ use Rattle.crc_steps.proofs.Linear.{steps-xor, steps-add, steps-shift, steps-ze
 use Rattle.crc_steps.proofs.Agree.{Lin, id, down, low, both, after, lin-steps, same, agree, falls, down-id, down-after, down-test, descend}
 use Rattle.crc_words.proofs.Shifts.{lup, above, over-xor, lin-fifth}
 
--- and after a byte, by its halves
-pub byte-fold : (x : ℕ) → x < 2 ^ 32 → bitXor (x / 2 ^ 8) (bitXor (steps 8 (x % 2 ^ 4)) (steps 4 (x / 2 ^ 4 % 2 ^ 4))) ≡ steps 8 x
+-- the register after a word: the polynomial's inverse, as a series of powers, times the word, and the polynomial times the high half of that
+abbrev inverse : ℕ → ℕ
+inverse w =
+    let u = bitXor w (up 1 w) in
+    let a = bitXor w (up 16 w) in
+    let b = bitXor a (up 3 a) in
+    let low = bitXor (bitXor (bitXor a (up 6 w)) (bitXor (up 9 b) (up 10 a))) (bitXor (up 24 w) (up 30 u)) in
+    let high = bitXor (bitXor (bitXor (up 29 b) (up 34 b)) (bitXor (up 44 b) (up 54 u))) (up 58 b) in
+    bitXor low high
+
+abbrev times : ℕ → ℕ
+times q =
+    let c = bitXor q (up 6 q) in
+    let d = bitXor c (up 4 c) in
+    bitXor (bitXor (bitXor c (up 9 q)) (up 10 c)) (bitXor (bitXor (up 20 d) (up 21 d)) (up 22 d))
+
+lin-inverse : Lin inverse
+lin-inverse =
+    let u = both id (lup 1 id) in
+    let a = both id (lup 16 id) in
+    let b = both a (lup 3 a) in
+    let low = both (both (both a (lup 6 id)) (both (lup 9 b) (lup 10 a))) (both (lup 24 id) (lup 30 u)) in
+    let high = both (both (both (lup 29 b) (lup 34 b)) (both (lup 44 b) (lup 54 u))) (lup 58 b) in
+    both low high
+
+lin-times : Lin times
+lin-times =
+    let c = both id (lup 6 id) in
+    let d = both c (lup 4 c) in
+    both (both (both c (lup 9 id)) (lup 10 c)) (both (both (lup 20 d) (lup 21 d)) (lup 22 d))
+
+pub divided : (x : ℕ) → x < 2 ^ 64 → times (inverse x / 2 ^ 32) / 2 ^ 32 ≡ steps 64 x
 unfolding same steps step
-byte-fold =
-    agree (λ x. bitXor (x / 2 ^ 8) (bitXor (steps 8 (x % 2 ^ 4)) (steps 4 (x / 2 ^ 4 % 2 ^ 4)))) (steps 8)
-    (both (down 8 id) (both (after (lin-steps 8) (low 4 id)) (after (lin-steps 4) (low 4 (down 4 id)))))
-    (lin-steps 8)
-    32
-    tt
+divided = agree (λ x. times (inverse x / 2 ^ 32) / 2 ^ 32) (steps 64) (down 32 (after lin-times (down 32 lin-inverse))) (lin-steps 64) 64 tt
 
 -- a map that steps down from power to power says where a word is put off to, if it does at the highest
 put-off : (k : ℕ) (f : ℕ → ℕ) → Lin f → T (falls f 63) → steps (64 + k) 0 ≡ steps k (f 0) → steps (64 + k) (2 ^ 63) ≡ steps k (f (2 ^ 63))

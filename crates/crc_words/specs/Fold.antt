@@ -48,4 +48,7 @@ left s i z = steps (8 * (length s - i)) (bitXor (word (drop i s)) z)
 
 -- x^31 + x^30 + x^27 + x^26 + x^23 + x^21 + x^19 + x^17 + x^7 + x^4 + x^3 + x^2 + x is x^96, up to a multiple of the polynomial
 unfoldable pub fifth : ℕ → ℕ
-fifth w = bitXor (bitXor (bitXor (bitXor (up 1 (bitXor w (up 1 w))) (up 3 (bitXor w (up 1 w)))) (up 7 w)) (up 17 (bitXor (bitXor w (up 2 w)) (up 4 (bitXor w (up 2 w)))))) (up 26 (bitXor (bitXor w (up 1 w)) (up 4 (bitXor w (up 1 w)))))
+fifth w =
+    let u = bitXor w (up 1 w) in
+    let v = bitXor u (up 4 u) in
+    bitXor (bitXor (bitXor (up 1 u) (up 3 u)) (up 7 w)) (bitXor (bitXor (up 17 v) (up 18 v)) (up 26 v))

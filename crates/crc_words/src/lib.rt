@@ -5,19 +5,16 @@
 // A word that was read is not divided: it is put off, to words that are still to come. Five words are pending at most. Where many words come
 // they are put off far, by few shifts; near the end by more, and less far; the last is divided.
 ghost use mathlib.Core.Path.{_≡_};
-ghost use Prim.Native.Nat.{ℕ, _+_, _-_, _*_, _%_, _<_, _≤_, _^_};
+ghost use Prim.Native.Nat.{ℕ, _+_, _-_, _*_, _/_, _%_, _<_, _≤_, _^_};
 ghost use lib.Bits.{bitXor};
 ghost use lib.ListN.{length, drop};
 ghost use Rattle.little_endian.specs.LittleEndian.{word};
 ghost use Rattle.crc_steps.specs.Crc32.{steps, crcOver};
-ghost use Rattle.crc_words.specs.Fold.{held, past, pulled, over, left, Turn, fifth};
+ghost use Rattle.crc_words.specs.Fold.{up, num, held, past, pulled, over, left, Turn, fifth};
 
 mod load;
 
 use crate::load::load;
-use crate::load::quad;
-use crate::load::wide;
-use crc_steps::four_bytes;
 
 // What is still to be taken into the bytes to come, the lowest word first.
 struct Pend {
@@ -47,8 +44,8 @@ fn times_fifth(w: u64) -> u64
     ensures { λ r. ⌜ r ≡ fifth w ⌝ }
 {
     let u = w ^ (w << 1);
-    let v = w ^ (w << 2);
-    (u << 1) ^ (u << 3) ^ (w << 7) ^ ((v ^ (v << 4)) << 17) ^ ((u ^ (u << 4)) << 26)
+    let v = u ^ (u << 4);
+    ((u << 1) ^ (u << 3) ^ (w << 7)) ^ ((v << 17) ^ (v << 18) ^ (v << 26))
 }
 
 // At least one word comes after.
@@ -110,11 +107,20 @@ fn mid(z: Pend, w: u64) -> Pend
     }
 }
 
-// The register after a word.
+// The register after a word, with no table: how often the polynomial goes into it, of which the high half counts, and what is left then. Each
+// is a product without carries, by a number of 28 bits and one of 15; shifts that bits have in common are made once.
 fn fold(w: u64) -> u64
     ensures { λ r. ⌜ r ≡ steps 64 w ⌝ }
 {
-    four_bytes(four_bytes(w))
+    let u = w ^ (w << 1);
+    let a = w ^ (w << 16);
+    let b = a ^ (a << 3);
+    let low = ((a ^ (w << 6)) ^ ((b << 9) ^ (a << 10))) ^ ((w << 24) ^ (u << 30));
+    let high = ((b << 29) ^ (b << 34)) ^ ((b << 44) ^ (u << 54)) ^ (b << 58);
+    let q = (low ^ high) >> 32;
+    let c = q ^ (q << 6);
+    let d = c ^ (c << 4);
+    ((c ^ (q << 9) ^ (c << 10)) ^ ((d << 20) ^ (d << 21) ^ (d << 22))) >> 32
 }
 
 // No word comes after.
@@ -131,141 +137,45 @@ fn last(z: Pend, w: u64) -> Pend
     }
 }
 
-// Four and eight steps of half a byte. LLVM keeps the answers of a `match` as a table in read-only memory.
-fn half(d: u64) -> u64
-    requires { ⌜ d < 16 ⌝ }
-    ensures { λ r. ⌜ r ≡ steps 4 d ⌝ }
-{
-    match d {
-        0 => 0,
-        1 => 0x1DB7_1064,
-        2 => 0x3B6E_20C8,
-        3 => 0x26D9_30AC,
-        4 => 0x76DC_4190,
-        5 => 0x6B6B_51F4,
-        6 => 0x4DB2_6158,
-        7 => 0x5005_713C,
-        8 => 0xEDB8_8320,
-        9 => 0xF00F_9344,
-        10 => 0xD6D6_A3E8,
-        11 => 0xCB61_B38C,
-        12 => 0x9B64_C2B0,
-        13 => 0x86D3_D2D4,
-        14 => 0xA00A_E278,
-        15 => 0xBDBD_F21C,
-        _ => 0,
-    }
-}
-
-fn whole(d: u64) -> u64
-    requires { ⌜ d < 16 ⌝ }
-    ensures { λ r. ⌜ r ≡ steps 8 d ⌝ }
-{
-    match d {
-        0 => 0,
-        1 => 0x7707_3096,
-        2 => 0xEE0E_612C,
-        3 => 0x9909_51BA,
-        4 => 0x076D_C419,
-        5 => 0x706A_F48F,
-        6 => 0xE963_A535,
-        7 => 0x9E64_95A3,
-        8 => 0x0EDB_8832,
-        9 => 0x79DC_B8A4,
-        10 => 0xE0D5_E91E,
-        11 => 0x97D2_D988,
-        12 => 0x09B6_4C2B,
-        13 => 0x7EB1_7CBD,
-        14 => 0xE7B8_2D07,
-        15 => 0x90BF_1D91,
-        _ => 0,
-    }
-}
-
-// The register after a byte.
-fn byte(c: u64, b: u64) -> u64
-    requires { ⌜ (c < 2 ^ 32) × (b < 2 ^ 8) ⌝ }
-    ensures { λ r. ⌜ (r ≡ steps 8 (bitXor c b)) × (r < 2 ^ 32) ⌝ }
-{
-    let x = c ^ b;
-    (x >> 8) ^ (whole(x % 16) ^ half(x / 16 % 16))
-}
-
-// The register after the bytes from `at` on, one a turn.
-fn singly(from: u64, s: &[u8], at: usize) -> u32
-    requires { ⌜ (from < 2 ^ 32) × (at ≤ length (now s)) ⌝ }
-    ensures { λ r. ⌜ r ≡ crcOver from (drop at (now (s .entry))) ⌝ }
-{
-    let mut c = from;
-    let mut i = at;
-    while i < s.len() {
-        c = byte(c, wide(s[i]));
-        i += 1;
-    }
-    c as u32
-}
-
-// The register after four bytes at i.
-fn four_at(c: u64, s: &[u8], i: usize) -> u64
-    requires { ⌜ (c < 2 ^ 32) × (i + 4 ≤ length (now s)) ⌝ }
-    ensures { λ r. ⌜ (r < 2 ^ 32) × (crcOver c (drop i (now (s .entry))) ≡ crcOver r (drop (i + 4) (now (s .entry)))) ⌝ }
-{
-    four_bytes(c ^ quad(s, i))
-}
-
-// The register after the bytes from i on, fewer than four: they are the highest of the last four, and zeros before them, and before the
-// register, change nothing.
-fn of_four(c: u64, s: &[u8], i: usize) -> u32
-    requires { ⌜ (c < 2 ^ 32) × (4 ≤ length (now s)) × (i ≤ length (now s)) × (length (now s) - i < 4) ⌝ }
-    ensures { λ r. ⌜ r ≡ crcOver c (drop i (now (s .entry))) ⌝ }
-{
-    let zeros = 32 - 8 * (s.len() - i);
-    let last = quad(s, s.len() - 4) >> zeros;
-    four_bytes((c ^ last) << zeros) as u32
-}
-
-// Below so many bytes words are not worth while.
-const FEW: usize = 16;
-
-// The register after few bytes, four a turn; then one, or two or three at once.
-fn few(register: u32, s: &[u8]) -> u32
-    ensures { λ r. ⌜ r ≡ crcOver register (now (s .entry)) ⌝ }
-{
-    let mut c = register as u64;
-    let mut i = 0;
-    while 4 <= s.len() - i {
-        c = four_at(c, s, i);
-        i += 4;
-    }
-    if s.len() < 4 {
-        return singly(c, s, i);
-    }
-    if s.len() - i < 2 {
-        return singly(c, s, i);
-    }
-    of_four(c, s, i)
-}
-
-// The first h bytes as a word of their own: zeros before them, and before the register, change nothing.
-fn head(register: u32, s: &[u8], h: usize) -> Pend
-    requires { ⌜ (0 < h) × (h < 8) × (h + 16 ≤ length (now s)) ⌝ }
-    ensures { λ r. ⌜ left (now (s .entry)) h (held r) ≡ crcOver register (now (s .entry)) ⌝ }
+// The register as it is pending on the last h bytes of a word: zeros before them, and before the register, change nothing.
+fn on_last(register: u32, h: usize) -> Pend
+    requires { ⌜ (0 < h) × (h < 8) ⌝ }
+    ensures { λ r. ⌜ held r ≡ num (up (64 - 8 * h) register) (register / 2 ^ (8 * h)) 0 0 0 ⌝ }
 {
     let c = register as u64;
-    let zeros = 64 - 8 * h;
-    let z = Pend {
-        a: c << zeros,
+    Pend {
+        a: c << (64 - 8 * h),
         b: c >> (8 * h),
         c: 0,
         d: 0,
         e: 0,
-    };
-    mid(z, load(s, 0) << zeros)
+    }
+}
+
+// The register after fewer bytes than a word has.
+fn few(register: u32, s: &[u8]) -> u32
+    requires { ⌜ length (now s) < 8 ⌝ }
+    ensures { λ r. ⌜ r ≡ crcOver register (now (s .entry)) ⌝ }
+{
+    let h = s.len();
+    if h == 0 {
+        return register;
+    }
+    let w = last(on_last(register, h), little_endian::get(s) << (64 - 8 * h));
+    w.a as u32
+}
+
+// The first h bytes as a word of their own.
+fn head(register: u32, s: &[u8], h: usize) -> Pend
+    requires { ⌜ (0 < h) × (h < 8) × (h + 8 ≤ length (now s)) ⌝ }
+    ensures { λ r. ⌜ left (now (s .entry)) h (held r) ≡ crcOver register (now (s .entry)) ⌝ }
+{
+    near(on_last(register, h), load(s, 0) << (64 - 8 * h))
 }
 
 // What is pending where whole words follow.
 fn start(register: u32, s: &[u8], h: usize) -> Pend
-    requires { ⌜ (h < 8) × (h + 16 ≤ length (now s)) ⌝ }
+    requires { ⌜ (h < 8) × (h + 8 ≤ length (now s)) ⌝ }
     ensures { λ r. ⌜ left (now (s .entry)) h (held r) ≡ crcOver register (now (s .entry)) ⌝ }
 {
     if h == 0 {
@@ -463,9 +373,12 @@ fn to_two(register: u32, z: Pend, s: &[u8]) -> Pend
 }
 
 fn to_one(register: u32, z: Pend, s: &[u8]) -> Pend
-    requires { ⌜ (16 ≤ length (now s)) × (left (now s) (length (now s) % 8) (held z) ≡ crcOver register (now s)) ⌝ }
+    requires { ⌜ (8 ≤ length (now s)) × (left (now s) (length (now s) % 8) (held z) ≡ crcOver register (now s)) ⌝ }
     ensures { λ r. ⌜ left (now (s .entry)) (length (now (s .entry)) - 8) (held r) ≡ crcOver register (now (s .entry)) ⌝ }
 {
+    if s.len() < 16 {
+        return z;
+    }
     near(to_two(register, z, s), load(s, s.len() - 16))
 }
 
@@ -483,7 +396,7 @@ pub fn over(register: u32, bytes: &[u8]) -> u32
     ensures { λ r. ⌜ r ≡ crcOver register (now (bytes .entry)) ⌝ }
 {
     let n = bytes.len();
-    if n < FEW {
+    if n < 8 {
         return few(register, bytes);
     }
     let one = to_one(register, start(register, bytes, n % 8), bytes);

@@ -1,75 +1,71 @@
--- `crc_words::few` meets its contract: the register after i bytes, over the rest, is the register over all.
+-- `crc_words::few` meets its contract: the law of fewer bytes than a word has, by the turn of the last word.
 -- Assumes nothing.
 use borrow.Author.Needs.{needs}
-use mathlib.Core.Path.{_≡_, refl, sym, _∙_}
-use Prim.Native.Nat.{_-_, _^_, _≤_, _<_}
+use mathlib.Core.Path.{subst}
+use Prim.Native.Nat.{ℕ, _-_, _*_}
 use native.Mathlib.Omega.{arith}
-use lib.ListN.{length, drop}
-use Rattle.crc_steps.specs.Crc32.{crcOver}
+use lib.ListN.{length}
+use Rattle.crc_words.specs.Fold.{up, held, Turn}
+use Rattle.crc_words.proofs.Left.{no-bytes, fewer}
 use Rattle.crc_words.proofs.few.Statement.{statement}
 use Rattle.crc_words.proofs.few.Tie as tie
 
-abbrev Inv-loop : tie.InvT-loop
-Inv-loop register s c₀ i₀ c i = (i ≤ length s) × ((c < 2 ^ 32) × (crcOver c (drop i s) ≡ crcOver register s))
+returns : tie.Need-returns
+returns c = no-bytes (c .before .before .args .s .now) (c .before .before .args .register) (omega arith)
 
-abbrev μ-loop : tie.MeasureT-loop
-μ-loop register s c₀ i₀ c i = length s - i
+on-last-requires : tie.Need-on-last-requires
+on-last-requires c κs = search needs
 
-loop-holds : tie.Need-loop-holds Inv-loop μ-loop
-loop-holds c = (omega arith, (omega arith, refl))
+get-requires : tie.Need-get-requires
+get-requires c κs = search needs
 
-sub-loop : tie.Need-sub-loop Inv-loop μ-loop
-sub-loop c = search needs
+mul-last : tie.Need-mul-last
+mul-last c = search needs
 
-four-at-requires : tie.Need-four-at-requires Inv-loop μ-loop
-four-at-requires c κs = search needs
+sub-last : tie.Need-sub-last
+sub-last c = search needs
 
-add-i : tie.Need-add-i Inv-loop μ-loop
-add-i c = search needs
+shl-last : tie.Need-shl-last
+shl-last c = search needs
 
-loop-less : tie.Need-loop-less Inv-loop μ-loop
-loop-less c = search needs
+last-requires : tie.Need-last-requires
+last-requires c κs = search needs
 
-loop-again : tie.Need-loop-again Inv-loop μ-loop
-loop-again c = (omega arith, (c .four-at .ensures .0, sym (c .four-at .ensures .1) ∙ c .before .before .loop .inv .1 .1))
+cast-result : tie.Need-cast-result
+cast-result c =
+    let b = c .before .before in
+    let a = b .before .before .before .before .args in
+    let p = 64 - 8 * length (a .s .now) in
+    let w = c .before .last .result in
+    omega (
+      arith,
+      fewer (a .s .now) (λ k. b .before .before .before .shared-slice-known .given k .fits) (a .register) p (b .get .result) (w .a) (w .b) (w .c) (w .d) (w .e) (omega arith) (omega arith) (b .get .ensures)
+          (subst (λ (z : ℕ). Turn 0 (up p (b .get .result)) z (held w)) (b .before .on-last .ensures) (c .before .last .ensures))
+          (omega arith)
+          .1,
+    )
 
-singly-requires : tie.Need-singly-requires Inv-loop μ-loop
-singly-requires c κs = search needs
-
-returns : tie.Need-returns Inv-loop μ-loop
-returns c = c .singly .ensures ∙ c .before .before .before .loop .inv .1 .1
-
-sub-if2 : tie.Need-sub-if2 Inv-loop μ-loop
-sub-if2 c = search needs
-
-singly-requires-2 : tie.Need-singly-requires-2 Inv-loop μ-loop
-singly-requires-2 c κs = search needs
-
-returns-2 : tie.Need-returns-2 Inv-loop μ-loop
-returns-2 c = c .singly2 .ensures ∙ c .before .before .before .before .loop .inv .1 .1
-
-of-four-requires : tie.Need-of-four-requires Inv-loop μ-loop
-of-four-requires c κs = search needs
-
-returns-3 : tie.Need-returns-3 Inv-loop μ-loop
-returns-3 c = c .of-four .ensures ∙ c .before .before .before .before .loop .inv .1 .1
+returns-2 : tie.Need-returns-2
+returns-2 c =
+    let b = c .before .before in
+    let a = b .before .before .before .before .args in
+    let p = 64 - 8 * length (a .s .now) in
+    let w = c .before .last .result in
+    fewer (a .s .now) (λ k. b .before .before .before .shared-slice-known .given k .fits) (a .register) p (b .get .result) (w .a) (w .b) (w .c) (w .d) (w .e) (omega arith) (omega arith) (b .get .ensures)
+    (subst (λ (z : ℕ). Turn 0 (up p (b .get .result)) z (held w)) (b .before .on-last .ensures) (c .before .last .ensures))
+    (omega arith)
+    .0
 
 pub few-spec : {M : Type 1} → statement M
 few-spec =
     tie.close
     (tie.spec
-    Inv-loop
-    μ-loop
-    loop-holds
-    sub-loop
-    four-at-requires
-    add-i
-    loop-less
-    loop-again
-    singly-requires
     returns
-    sub-if2
-    singly-requires-2
-    returns-2
-    of-four-requires
-    returns-3)
+    on-last-requires
+    get-requires
+    mul-last
+    sub-last
+    shl-last
+    last-requires
+    cast-result
+    returns-2)

@@ -19,9 +19,6 @@ start-requires c κs = search needs
 to-one-requires : tie.Need-to-one-requires
 to-one-requires c κs = search needs
 
-sub-end : tie.Need-sub-end
-sub-end c = search needs
-
 end-requires : tie.Need-end-requires
 end-requires c κs =
     let a = c .before .before .before .before .args in
@@ -31,4 +28,4 @@ returns-2 : tie.Need-returns-2
 returns-2 c = c .end .ensures ∙ c .before .to-one .ensures
 
 pub over-spec : {M : Type 1} → statement M
-over-spec = tie.close (tie.spec few-requires returns start-requires to-one-requires sub-end end-requires returns-2)
+over-spec = tie.close (tie.spec few-requires returns start-requires to-one-requires end-requires returns-2)
