@@ -24,10 +24,10 @@ use Rattle.model.specs.Step.{refusal, oneOpen, grant, answer}
 use Rattle.model.proofs.Verdicts.{test-ok, first-ok}
 use Rattle.tables.specs.Shapes.{slabFits}
 use Rattle.tables.proofs.Lengths.{slabFits-read}
-use Rattle.kept.specs.declared.Rows.the-variants as R
-use Rattle.kept.specs.Kept.{rowsOf, rowsFrom, rowsAs, firstBad, rowOutOfRange}
-use Rattle.kept.proofs.Laws.{abandonRows-first, badRow-read, rowsFrom-next, rowsFrom-none, slab-part, put-slab}
-use Rattle.kept.proofs.Checked.{check-count, check-refused, check-kept, granted-answer, granted-after}
+use Rattle.batch_kept.specs.declared.Rows.the-variants as R
+use Rattle.batch_kept.specs.Kept.{rowsOf, rowsFrom, rowsAs, firstBad, rowOutOfRange}
+use Rattle.batch_kept.proofs.Laws.{abandonRows-first, badRow-read, rowsFrom-next, rowsFrom-none, slab-part, put-slab}
+use Rattle.batch_kept.proofs.Checked.{check-count, check-refused, check-kept, granted-answer, granted-after}
 
 -- ---- lengths
 abbrev pub fits : Memory → Bool

@@ -17,11 +17,11 @@ ghost use Rattle.model.specs.Tables.{locationsOf};
 ghost use Rattle.model.specs.Memory.{Memory, read};
 ghost use Rattle.model.specs.MemoryAfter.{Slots, giveSlot, giveSlots, memoryAfter};
 ghost use Rattle.model.specs.Step.{refusal, answer};
-ghost use Rattle.kept.specs.Kept.{rowsFrom, rowOutOfRange, firstBad, rowsAs};
+ghost use Rattle.batch_kept.specs.Kept.{rowsFrom, rowOutOfRange, firstBad, rowsAs};
 ghost use Rattle.abandon.specs.Abandon.{abandonMemory, abandonedAnswer};
 use address::SlabAddress;
 use address::Unpacked;
-use kept::Rows;
+use batch_kept::Rows;
 use refusal::Refusal;
 use tables::Capacities;
 use tables::FREED;
@@ -44,7 +44,7 @@ fn check_rows(caps: Capacities, batch: &[u64], n: usize) -> Rows
     while i < n {
         let id = tables::get(batch, KEPT_IDS, i);
         let location = tables::get(batch, KEPT_LOCATIONS, i);
-        if kept::out_of_range(ids, slots, id, location) {
+        if batch_kept::out_of_range(ids, slots, id, location) {
             return Rows::Refused(Refusal::at(Refusal::TABLES_DISAGREE, i));
         }
         i += 1;
@@ -59,7 +59,7 @@ fn check(caps: Capacities, slot_marks: &[u8], batch: &[u64], tallies: &[u64]) ->
     if !tables::slab_fits(caps, slot_marks.len(), batch.len(), tallies.len()) {
         return Rows::Refused(Refusal::of(Refusal::WRONG_SHAPE));
     }
-    match kept::opened(batch) {
+    match batch_kept::opened(batch) {
         Rows::Count(n) => check_rows(caps, batch, n),
         Rows::Refused(refusal) => Rows::Refused(refusal),
     }

@@ -22,11 +22,11 @@ use Rattle.model.proofs.Verdicts.{test-ok, first-ok}
 use Rattle.tables.specs.Shapes.{allFit}
 use Rattle.tables.proofs.Lengths.{allFit-read}
 use Rattle.tables.proofs.LawsEntries.{badIn-read}
-use Rattle.kept.specs.declared.Rows.{Rows}
-use Rattle.kept.specs.declared.Rows.the-variants as R
-use Rattle.kept.specs.Kept.{rowsOf, rowsFrom, rowsAs, firstBad}
-use Rattle.kept.proofs.Laws.{badRow-read, commitRows-first, rowsAs-count, rowsAs-refused}
-use Rattle.kept.proofs.Checked.{check-count, check-refused, check-kept, granted-answer, granted-after}
+use Rattle.batch_kept.specs.declared.Rows.{Rows}
+use Rattle.batch_kept.specs.declared.Rows.the-variants as R
+use Rattle.batch_kept.specs.Kept.{rowsOf, rowsFrom, rowsAs, firstBad}
+use Rattle.batch_kept.proofs.Laws.{badRow-read, commitRows-first, rowsAs-count, rowsAs-refused}
+use Rattle.batch_kept.proofs.Checked.{check-count, check-refused, check-kept, granted-answer, granted-after}
 use Rattle.commit.specs.Commit.{badUpdate, rowBad}
 
 -- ---- lengths

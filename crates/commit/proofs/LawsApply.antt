@@ -10,8 +10,8 @@ use Rattle.id_allocator.specs.Counted.{settle}
 use Rattle.model.specs.Tables.{write}
 use Rattle.model.specs.Memory.{Memory, word, waitingWords}
 use Rattle.model.specs.MemoryAfter.{Slots, slotsOf, withSlots, withOwned, readyBy, readySlab, pendSlot, readyMarks, readyWords, pendOld, commitRow, commitAll}
-use Rattle.kept.specs.Kept.{rowsFrom}
-use Rattle.kept.proofs.Laws.{rowsFrom-next, rowsFrom-none, slab-part, put-slab}
+use Rattle.batch_kept.specs.Kept.{rowsFrom}
+use Rattle.batch_kept.proofs.Laws.{rowsFrom-next, rowsFrom-none, slab-part, put-slab}
 
 -- ---- ready
 pub readyMarks-busy : (w : ℕ) (ms : List ℕ) → (w ≡ 0 → ⊥) → readyMarks w ms ≡ ms

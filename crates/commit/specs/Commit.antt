@@ -6,7 +6,7 @@ use Prim.Native.Nat.{ℕ}
 use lib.ListN.{getD}
 use Rattle.model.specs.Store.{Answer, refused, done, Row}
 use Rattle.tables.specs.Entries.{badIn}
-use Rattle.kept.specs.Kept.{outOfRange}
+use Rattle.batch_kept.specs.Kept.{outOfRange}
 use Rattle.commit.specs.declared.Committed.{Committed}
 use Rattle.commit.specs.declared.Committed.the-variants as C
 

@@ -5,9 +5,9 @@ ghost use lib.ListN.{getD};
 ghost use Rattle.model.specs.Store.{commit};
 ghost use Rattle.model.specs.Memory.{read, memoryOf};
 ghost use Rattle.model.specs.Step.{refusal};
-ghost use Rattle.kept.specs.Kept.{rowsFrom, firstBad, rowsAs};
+ghost use Rattle.batch_kept.specs.Kept.{rowsFrom, firstBad, rowsAs};
 ghost use Rattle.commit.specs.Commit.{badUpdate, rowBad};
-use kept::Rows;
+use batch_kept::Rows;
 use refusal::Refusal;
 use tables::Capacities;
 use tables::KEPT_IDS;
@@ -27,7 +27,7 @@ fn bad_update(
 {
     let ids = caps.ids;
     let slots = caps.slots;
-    if kept::out_of_range(ids, slots, id, location) {
+    if batch_kept::out_of_range(ids, slots, id, location) {
         return true;
     }
     let old = tables::get(locations, 0, id as usize);
@@ -81,7 +81,7 @@ pub(crate) fn check(
     ) {
         return Rows::Refused(Refusal::of(Refusal::WRONG_SHAPE));
     }
-    match kept::opened(batch) {
+    match batch_kept::opened(batch) {
         Rows::Count(n) => check_rows(caps, locations, slot_marks, owners, batch, tallies, n),
         Rows::Refused(refusal) => Rows::Refused(refusal),
     }

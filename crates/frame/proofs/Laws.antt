@@ -12,7 +12,7 @@ use borrow.Author.Tests.{le-leb, le-ltb, ltb-false}
 use Rattle.refusal.specs.Refusals.{refusal, wrongShape, checkDiffers, tooLong}
 use Rattle.little_endian.specs.LittleEndian.{word, bytesOf, getAt, putAt}
 use Rattle.little_endian.proofs.Laws.{Bytes, append-bytes, zero-bytes, bytesOf-bytes, bytesOf-zero, length-bytesOf, word-bytesOf, putAt-next}
-use Rattle.parts.proofs.Parts.{length-part, drop-part}
+use Rattle.list_parts.proofs.Parts.{length-part, drop-part}
 use Rattle.sizes.specs.Sizes.{isSlabSize, fieldWidth, checkWidth, room}
 use Rattle.sizes.proofs.Laws.{fieldWidth-le, isSlabSize-most, room-frame, room-lt}
 use Rattle.seal.specs.Seal.{checkOf, signed, isSigned, resigned}

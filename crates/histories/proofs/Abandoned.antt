@@ -20,7 +20,8 @@ use Rattle.model.specs.Store.{Store, Row, abandon, Update, offer, Call, newId, 
 use Rattle.model.specs.Tables.{elem, at, writeAll, isOpen, kept, locationsOf, pairs}
 use Rattle.model.specs.Verdict.{ok, _⨾_, test, Verdict, refuse}
 use Rattle.model.proofs.Batches.{length-place}
-use Rattle.model.proofs.Granted.{next-granted, next-refused, offer-granted}
+use Rattle.model.proofs.Answered.{next-granted, next-refused}
+use Rattle.model.proofs.Granted.{offer-granted}
 use Rattle.model.proofs.Tables.{elem-tail, elem-head, elem-cases, contradiction, Spot, length-writeAll, isLocation-nz, writeAll-same, writeAll-other, nz-lt, one-nz, all}
 use Rattle.model.proofs.Verdicts.{test-ok, first-ok, then-ok}
 use Rattle.histories.specs.Invariant.{KeptRows, Inv}

@@ -21,7 +21,7 @@ use Rattle.model.specs.Step.{effect, next, refusal, unless, after, state}
 use Rattle.model.specs.Store.{Store, Call, newId, release, offer, commit, abandon, fresh, rebuild, lookup, counters, defrag, truncation, report, Row}
 use Rattle.model.specs.Tables.{kept, at, elem, idsOf, locationsOf, sized, heldId, locationOf, live, inIds, writeAll, pairs}
 use Rattle.model.specs.Verdict.{ok, Verdict, refuse, _⨾_, test}
-use Rattle.model.proofs.Granted.{next-granted}
+use Rattle.model.proofs.Answered.{next-granted}
 use Rattle.model.proofs.Rows.{asLong-rows, rowsOf-rows}
 use Rattle.model.proofs.Tables.{all, elem-head, elem-tail, elem-cases, contradiction, elem-not, set-keeps, nz-lt, one-nz, zeros, isLocation-packing, at-packing, isLocation-nz, writeAll-same, at-lt, writeAll-other, length-writeAll}
 use Rattle.histories.specs.Invariant.{Inv, Located}

@@ -36,7 +36,7 @@ pub fn smallest_free(marks: &[u8], hint: usize, from: usize) -> usize
     ensures { λ r. ⌜ r ≡ smallestFree from (hinted hint (now (marks .entry))) ⌝ }
 {
     let start = larger(from, smaller(hint, marks.len()));
-    search::smallest_free(marks, start)
+    marks_search::smallest_free(marks, start)
 }
 
 // Held plus pending.
@@ -52,7 +52,7 @@ pub fn last_taken(marks: &[u8], hint: usize) -> usize
     ensures { λ r. ⌜ r ≡ lastTaken (hinted hint (now (marks .entry))) ⌝ }
 {
     let below = smaller(hint, marks.len());
-    below + search::last_taken(&marks[below..])
+    below + marks_search::last_taken(&marks[below..])
 }
 
 // The tip. `used` is not 0 where any number was allocated, or held by a row, since fresh or rebuild.
@@ -121,8 +121,8 @@ pub fn release(marks: &mut [u8], hint: usize) -> usize
 {
     let begin: usize = 0;
     let end = smaller(hint, marks.len());
-    let below = pending::release(&mut marks[begin..end], HELD);
-    below + pending::release(&mut marks[end..], FREE)
+    let below = marks_pending::release(&mut marks[begin..end], HELD);
+    below + marks_pending::release(&mut marks[end..], FREE)
 }
 
 // A number becomes free; the new hint. From the number up to the hint the marks are first written as they count.

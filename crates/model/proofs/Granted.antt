@@ -1,5 +1,5 @@
--- What a granted call knows: its tables fit, and the tests on the way were not met; and what a verdict makes of a call. Assumes nothing.
-use mathlib.Core.Path.{ap, _≡_}
+-- What a granted call knows: its tables fit, and the tests on the way were not met. Assumes nothing.
+use mathlib.Core.Path.{_≡_}
 use mathlib.Core.Bool.{Bool, true, not, false}
 use mathlib.Core.List.{List, []}
 use Prim.Native.Nat.{ℕ, _≤_, _<_}
@@ -13,12 +13,10 @@ use Rattle.address.proofs.Laws.{slots-range}
 use Rattle.model.specs.Batches.{updates, updatesOf, room}
 use Rattle.model.specs.Cases.{stores}
 use Rattle.model.specs.Ids.{nextId}
-use Rattle.model.specs.Memory.{Memory, read}
-use Rattle.model.specs.MemoryAfter.{memoryAfter, memoryEffect}
-use Rattle.model.specs.Step.{shape, grant, refusal, next, answer, asLong, answerBy, effect, unless}
-use Rattle.model.specs.Store.{Store, newId, offer, Call, refused}
+use Rattle.model.specs.Step.{shape, refusal, asLong}
+use Rattle.model.specs.Store.{Store, newId, offer}
 use Rattle.model.specs.Tables.{capacities, badIds, shut, isOpen, idMarksFit, locationsFit, slotMarksFit, ownersFit, batchFits, talliesFit, tablesFit}
-use Rattle.model.specs.Verdict.{ok, refuse}
+use Rattle.model.specs.Verdict.{ok}
 use Rattle.model.proofs.Verdicts.{test-ok, first-ok, then-ok}
 
 pub shape-ok : (s : Store) (fit : Bool) → shape s fit ≡ ok → (capacities (s .ids) (s .slots) ≡ true) × (fit ≡ true)
@@ -99,29 +97,3 @@ offer-granted s is ss ns out e =
       fit = first-ok _ _ e₄;
       enough = then-ok _ _ e₄;
     }
-
--- ---- by the verdict: the answer, the store and the memory after a call
-
-pub answer-granted : (s : Store) (c : Call) → refusal s c ≡ ok → answer s c ≡ grant s c
-unfolding answer
-answer-granted s c e = ap (λ w. answerBy w (grant s c)) e
-
-pub answer-refused : (s : Store) (c : Call) (n i : ℕ) → refusal s c ≡ refuse n i → answer s c ≡ refused n i
-unfolding answer
-answer-refused s c n i e = ap (λ w. answerBy w (grant s c)) e
-
-pub next-granted : (s : Store) (c : Call) → refusal s c ≡ ok → next s c ≡ effect s c
-unfolding next
-next-granted s c e = ap (λ w. unless w s (effect s c)) e
-
-pub next-refused : (s : Store) (c : Call) (n i : ℕ) → refusal s c ≡ refuse n i → next s c ≡ s
-unfolding next
-next-refused s c n i e = ap (λ w. unless w s (effect s c)) e
-
-pub memoryAfter-granted : (m : Memory) (c : Call) → refusal (read m) c ≡ ok → memoryAfter m c ≡ memoryEffect m c
-unfolding memoryAfter
-memoryAfter-granted m c e = ap (λ w. unless w m (memoryEffect m c)) e
-
-pub memoryAfter-refused : (m : Memory) (c : Call) (n i : ℕ) → refusal (read m) c ≡ refuse n i → memoryAfter m c ≡ m
-unfolding memoryAfter
-memoryAfter-refused m c n i e = ap (λ w. unless w m (memoryEffect m c)) e

@@ -2,6 +2,7 @@ pub mod Verdicts
 pub mod Tables
 pub mod Batches
 pub mod Granted
+pub mod Answered
 pub mod Rows
 pub mod Computed
 pub mod Words

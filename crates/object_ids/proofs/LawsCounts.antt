@@ -21,7 +21,7 @@ use Rattle.model.proofs.Granted.{shape-ok}
 use Rattle.model.proofs.Words.{talliesFit-length}
 use Rattle.tables.specs.Shapes.{talliesFits}
 use Rattle.tables.proofs.Lengths.{talliesFits-read}
-use Rattle.calls.proofs.Calls.{granted-after}
+use Rattle.model.proofs.Answered.{granted-after}
 use Rattle.object_ids.specs.Counts.{listed}
 
 -- ---- the words of a kind

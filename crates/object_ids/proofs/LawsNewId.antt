@@ -24,7 +24,7 @@ use Rattle.model.proofs.Verdicts.{first-ok}
 use Rattle.tables.specs.Shapes.{newIdFits}
 use Rattle.tables.proofs.Laws.{capacities-range}
 use Rattle.tables.proofs.Lengths.{newIdFits-read}
-use Rattle.calls.proofs.Calls.{granted-after}
+use Rattle.model.proofs.Answered.{granted-after}
 use Rattle.object_ids.specs.NewIds.{takes}
 
 module _ (m : Memory) where

@@ -30,11 +30,11 @@ use Rattle.tables.specs.Verdicts.{verdictOf}
 use Rattle.tables.specs.declared.Judged.{Judged}
 use Rattle.tables.specs.declared.Judged.the-variants as J
 use Rattle.tables.proofs.Lengths.{allFit-read}
-use Rattle.updates.specs.Kinds.{noKinds, kindsOf, checkIn}
+use Rattle.offer_updates.specs.Kinds.{noKinds, kindsOf, checkIn}
 use Rattle.offer.specs.Outcome.{offerLeaves}
 use Rattle.offer.specs.Verdicts.{offerFits}
-use Rattle.places.specs.Places.{slotsIn, placeIn}
-use Rattle.room.specs.Room.{noneAsked, tallied, roomIn}
+use Rattle.offer_places.specs.Places.{slotsIn, placeIn}
+use Rattle.offer_room.specs.Room.{noneAsked, tallied, roomIn}
 use Rattle.offer.proofs.LawsPlaces.{sets-whole, place-read}
 use Rattle.offer.proofs.LawsRoom.{room-read}
 use Rattle.offer.proofs.LawsUpdates.{length-kindsOf, kinds-front, check-read, check-lent}

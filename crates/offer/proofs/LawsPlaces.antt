@@ -26,9 +26,9 @@ use Rattle.model.proofs.Slabs.{length-countedSlabs}
 use Rattle.model.proofs.Steps.{Fits, Stepped, slotsRead, still, fits-on, slab-read, part-long, took-read}
 use Rattle.model.proofs.Tables.{isLocation-packing, at-packing, write-set}
 use Rattle.tables.proofs.LawsEntries.{slabPart-is}
-use Rattle.updates.specs.Kinds.{kindOf, kindsOf}
-use Rattle.places.specs.Places.{nextIn, spotIn, placeIn}
-use Rattle.places.proofs.Laws.{spotIn-none}
+use Rattle.offer_updates.specs.Kinds.{kindOf, kindsOf}
+use Rattle.offer_places.specs.Places.{nextIn, spotIn, placeIn}
+use Rattle.offer_places.proofs.Laws.{spotIn-none}
 
 -- a list written whole
 pub sets-whole : (l vs : List ℕ) → length vs ≡ length l → sets l 0 vs ≡ vs

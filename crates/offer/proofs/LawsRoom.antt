@@ -25,8 +25,8 @@ use Rattle.model.specs.Verdict.{test, _⨾_}
 use Rattle.model.proofs.Steps.{Fits, slotsRead, slab-read}
 use Rattle.model.proofs.Tables.{length-bump, bump-other, zeros}
 use Rattle.tables.proofs.LawsEntries.{slabPart-is}
-use Rattle.updates.specs.Kinds.{kindOf, kindsOf}
-use Rattle.room.specs.Room.{noneAsked, tallied, freeIn, roomIn}
+use Rattle.offer_updates.specs.Kinds.{kindOf, kindsOf}
+use Rattle.offer_room.specs.Room.{noneAsked, tallied, freeIn, roomIn}
 use Rattle.offer.proofs.LawsUpdates.{length-kindsOf}
 
 -- ---- how many are asked for

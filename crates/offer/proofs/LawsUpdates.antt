@@ -19,8 +19,8 @@ use Rattle.model.specs.Tables.{elem, heldId, badLocation}
 use Rattle.model.specs.Verdict.{Verdict, test, _⨾_}
 use Rattle.tables.specs.Entries.{heldIn, badIn}
 use Rattle.tables.proofs.LawsEntries.{heldIn-read, badIn-read}
-use Rattle.updates.specs.Kinds.{noKinds, kindOf, kindsOf, numberBy, rowNumber, sayAt, checkIn}
-use Rattle.updates.proofs.Laws.{slabFor-le}
+use Rattle.offer_updates.specs.Kinds.{noKinds, kindOf, kindsOf, numberBy, rowNumber, sayAt, checkIn}
+use Rattle.offer_updates.proofs.Laws.{slabFor-le}
 
 -- ---- the slab of each update
 pub length-kindsOf : (ss : List Bool) (ns : List ℕ) → length ns ≡ length ss → length (kindsOf ss ns) ≡ length ss

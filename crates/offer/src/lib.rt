@@ -16,8 +16,8 @@ ghost use Rattle.model.specs.Memory.{memoryOf};
 ghost use Rattle.offer.specs.Outcome.{answerOf, Left, offerLeaves};
 ghost use Rattle.tables.specs.Verdicts.{verdictOf};
 ghost use Rattle.offer.specs.Verdicts.{offerFits};
-ghost use Rattle.updates.specs.Kinds.{checkIn};
-ghost use Rattle.room.specs.Room.{roomIn, tallied, noneAsked};
+ghost use Rattle.offer_updates.specs.Kinds.{checkIn};
+ghost use Rattle.offer_room.specs.Room.{roomIn, tallied, noneAsked};
 use refusal::Refusal;
 use tables::Capacities;
 use tables::Judged;
@@ -76,7 +76,7 @@ fn refused(
     ensures { λ r. ⌜ verdictOf r ≡ (checkIn (memoryOf (caps .ids) (caps .slots) (now («id_marks» .entry)) (now (locations .entry)) (now («slot_marks» .entry)) (now (owners .entry)) [] (now (tallies .entry))) [] 0 (now (ids .entry)) (now (slabs .entry)) ⨾ roomIn (caps .slots) (now («slot_marks» .entry)) (now (tallies .entry)) (tallied noneAsked (now (slabs .entry))) 78 0) ⌝ }
 {
     let slots = caps.slots;
-    let checked = updates::check(
+    let checked = offer_updates::check(
         caps,
         id_marks,
         locations,
@@ -89,8 +89,8 @@ fn refused(
     let Judged::Passed = checked else {
         return checked;
     };
-    let asked = room::tally(slabs);
-    room::room(slots, slot_marks, tallies, &asked)
+    let asked = offer_room::tally(slabs);
+    offer_room::room(slots, slot_marks, tallies, &asked)
 }
 
 // The refusals in their order; then the slots are taken, the list is written, and the batch is kept.
@@ -132,7 +132,7 @@ pub fn offer(
     if n > MOST_UPDATES {
         return Offered::Refused(Refusal::of(Refusal::TOO_MANY));
     }
-    let all = updates::kinds(stores, lengths);
+    let all = offer_updates::kinds(stores, lengths);
     let slabs = &all[..n];
     let judged = refused(
         caps,
@@ -147,7 +147,7 @@ pub fn offer(
     if let Judged::Refused(refusal) = judged {
         return Offered::Refused(refusal);
     }
-    places::place(slots, slot_marks, tallies, slabs, placed);
-    places::keep(batch, ids, placed, n as u64 + 1);
+    offer_places::place(slots, slot_marks, tallies, slabs, placed);
+    offer_places::keep(batch, ids, placed, n as u64 + 1);
     Offered::Done
 }

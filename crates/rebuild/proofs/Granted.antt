@@ -21,9 +21,9 @@ use Rattle.model.specs.MemoryAfter.{memoryAfter, memoryEffect, memoryRebuilt, u
 use Rattle.tables.specs.Shapes.{allFit}
 use Rattle.tables.proofs.Lengths.{allFit-read}
 use Rattle.tables.proofs.Laws.{capacities-range}
-use Rattle.rows.specs.Checks.{refusedRow, verdictOf}
-use Rattle.rows.specs.declared.Wrong.{Wrong}
-use Rattle.rows.proofs.Checked.{verdict-is, rows-length}
+use Rattle.rebuild_rows.specs.Checks.{refusedRow, verdictOf}
+use Rattle.rebuild_rows.specs.declared.Wrong.{Wrong}
+use Rattle.rebuild_rows.proofs.Checked.{verdict-is, rows-length}
 
 -- the tables of a memoryOf have their lengths
 abbrev pub fit : Memory → Bool

@@ -12,8 +12,8 @@ use Rattle.address.specs.declared.Unpacked.the-variants as U
 use Rattle.address.proofs.Laws.{slots-range, unpacked-at}
 use Rattle.model.specs.Memory.{putWord, usedWords, wordAt}
 use Rattle.model.specs.Tables.{at}
-use Rattle.rows.specs.Checks.{isAt}
-use Rattle.rows.proofs.Turns.{isAt-unpacked}
+use Rattle.rebuild_rows.specs.Checks.{isAt}
+use Rattle.rebuild_rows.proofs.Turns.{isAt-unpacked}
 
 pub record Place (slots location : ℕ) (a : SlabAddress) : Type 0 where
   pub is : isLocation slots location ≡ true

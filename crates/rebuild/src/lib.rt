@@ -84,7 +84,7 @@ pub fn rebuild(
     if !tables::both(fit, row_locations.len() == ids.len()) {
         return Rebuilt::Refused(Refusal::of(Refusal::WRONG_SHAPE));
     }
-    let wrong = rows::first_refused(caps, ids, row_locations);
+    let wrong = rebuild_rows::first_refused(caps, ids, row_locations);
     if wrong.number != 0 {
         return Rebuilt::Refused(Refusal::at(wrong.number, wrong.row));
     }

@@ -26,7 +26,7 @@ use Rattle.model.proofs.Verdicts.{first-ok}
 use Rattle.model.proofs.Shapes.{slotMarksFit-read}
 use Rattle.tables.specs.Shapes.{releaseFits}
 use Rattle.tables.proofs.Lengths.{releaseFits-read}
-use Rattle.calls.proofs.Calls.{granted-after}
+use Rattle.model.proofs.Answered.{granted-after}
 
 -- ---- the tests
 module _ (m : Memory) where

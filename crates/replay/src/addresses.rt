@@ -3,10 +3,10 @@
 use address::Packed;
 use address::SlabAddress;
 use address::Unpacked;
-use answers::told;
-use answers::words;
-use answers::words::Numeral;
-use answers::words::Pair;
+use replay_words::told;
+use replay_words::words;
+use replay_words::words::Numeral;
+use replay_words::words::Pair;
 
 fn is_packed(slots: usize, slab: usize, slot: usize, answer: &[u8]) -> bool {
     let at = SlabAddress { slab, slot };

@@ -2,10 +2,10 @@
 ghost use mathlib.Core.Path.{_≡_};
 ghost use lib.ListN.{length};
 use crate::digits;
-use answers::front;
-use answers::words;
-use answers::words::Numeral;
-use answers::words::Pair;
+use replay_words::front;
+use replay_words::words;
+use replay_words::words::Numeral;
+use replay_words::words::Pair;
 
 // The most bytes that a line speaks of.
 pub const MOST: usize = 98304;

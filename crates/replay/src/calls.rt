@@ -5,10 +5,10 @@ use crate::classes;
 use crate::cookies;
 use crate::cutoffs;
 use crate::frames;
-use answers::file;
-use answers::source;
-use answers::tally::Tally;
-use answers::words;
+use replay_words::file;
+use replay_words::source;
+use replay_words::tally::Tally;
+use replay_words::words;
 
 // Makes the call of this name; its arguments and its answer are the words after the name.
 fn call(name: &[u8], rest: &[u8]) -> bool {

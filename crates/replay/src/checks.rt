@@ -1,8 +1,8 @@
 // crc BYTES: ok NUMBER
 use crate::blob;
-use answers::front;
-use answers::told;
-use answers::words;
+use replay_words::front;
+use replay_words::told;
+use replay_words::words;
 
 pub fn crc(rest: &[u8]) -> bool {
     let mut space = blob::space();

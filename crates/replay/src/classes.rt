@@ -1,7 +1,7 @@
 // class LENGTH: ok SLAB | REFUSED
-use answers::told;
-use answers::words;
-use answers::words::Numeral;
+use replay_words::told;
+use replay_words::words;
+use replay_words::words::Numeral;
 use sizes::Class;
 
 pub fn class(rest: &[u8]) -> bool {

@@ -3,10 +3,10 @@
 use crate::blob;
 use crate::digits;
 use crate::lent;
-use answers::front;
-use answers::told;
-use answers::words;
-use answers::words::Numeral;
+use replay_words::front;
+use replay_words::told;
+use replay_words::words;
+use replay_words::words::Numeral;
 use settings::PersistentSettings;
 use settings::Stored;
 use settings::Verified;

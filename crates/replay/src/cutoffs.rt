@@ -1,9 +1,9 @@
 // cutoff LIVE TIP BITS: from SLOT | nothing
-use answers::ratios;
-use answers::told;
-use answers::words;
-use answers::words::Numeral;
-use answers::words::Pair;
+use replay_words::ratios;
+use replay_words::told;
+use replay_words::words;
+use replay_words::words::Numeral;
+use replay_words::words::Pair;
 use fragmentation::Cutoff;
 
 fn is_cutoff(live: usize, tip: usize, r: f32, answer: &[u8]) -> bool {

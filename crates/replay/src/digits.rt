@@ -1,5 +1,5 @@
 // Bytes as hex digits, two each; `-` says no bytes.
-use answers::words;
+use replay_words::words;
 
 enum Byte {
     Is(u8),

@@ -1,5 +1,5 @@
 // What a lent buffer holds before a call, so that what the call leaves of it can be told.
-use answers::told;
+use replay_words::told;
 use refusal::Refusal;
 
 fn before(i: usize) -> u8 {

@@ -1,8 +1,8 @@
 // The call that a line says: its name is word 1, then come its arguments, and then the answer.
-use answers::ratios;
-use answers::words;
-use answers::words::Numeral;
-use answers::words::Pair;
+use replay_words::ratios;
+use replay_words::words;
+use replay_words::words::Numeral;
+use replay_words::words::Pair;
 
 // The rows of an offer and a rebuild stand on the lines before; a ratio is said by its bits.
 pub enum Call {

@@ -4,8 +4,8 @@ use crate::counted;
 use crate::make;
 use crate::pokes;
 use crate::row_lines;
-use answers::source;
-use answers::words;
+use replay_words::source;
+use replay_words::words;
 use tables::Capacities;
 
 // A line that is no call.

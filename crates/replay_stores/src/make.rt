@@ -1,8 +1,8 @@
 // Makes a call on the store, and compares its outcome with the line's answer.
 use crate::call::Call;
 use crate::outcomes;
-use answers::front;
-use answers::ratios;
+use replay_words::front;
+use replay_words::ratios;
 use tables::Capacities;
 
 fn on_slabs(

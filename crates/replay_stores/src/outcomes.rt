@@ -1,7 +1,7 @@
 // Whether a call's outcome is what the line says: ok, with numbers or without, keep, cut LENGTH GIVEN_BACK, or REFUSED.
 use abandon::Abandoned;
-use answers::told;
-use answers::words;
+use replay_words::told;
+use replay_words::words;
 use commit::Committed;
 use defrag::Defrag;
 use lookup::Looked;

@@ -8,9 +8,9 @@ ghost use Prim.Native.Nat.{_≤_};
 use crate::runs;
 use crate::runs::Rows;
 use crate::runs::Run;
-use answers::words;
-use answers::words::Numeral;
-use answers::words::Pair;
+use replay_words::words;
+use replay_words::words::Numeral;
+use replay_words::words::Pair;
 
 fn smaller(a: usize, b: usize) -> usize
     ensures { λ r. ⌜ (r ≤ a) × (r ≤ b) ⌝ }

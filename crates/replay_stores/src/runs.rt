@@ -1,7 +1,7 @@
 // AT COUNT FIRST STEP: rows AT to AT + COUNT - 1 of a column, of which row AT + i has FIRST + i × STEP, modulo 2^64.
-use answers::words;
-use answers::words::Numeral;
-use answers::words::Pair;
+use replay_words::words;
+use replay_words::words::Numeral;
+use replay_words::words::Pair;
 
 // The most rows that a call is lent or lends: the larger capacities of the lists, and the most updates offered at once.
 pub const MOST: usize = 512;

@@ -8,7 +8,7 @@ use lib.Dec.{ltb, lit<}
 use lib.ListN.{length, take, drop, replicate, length-append, length-drop}
 use lib.Seq.{take-at}
 use borrow.Author.Tests.{le-ltb}
-use Rattle.parts.proofs.Parts.{length-part, drop-part}
+use Rattle.list_parts.proofs.Parts.{length-part, drop-part}
 use Rattle.little_endian.specs.LittleEndian.{bytesOf, getAt, putAt}
 use Rattle.little_endian.proofs.Laws.{append-bytes, zero-bytes, bytesOf-bytes, bytesOf-zero, length-bytesOf, word-bytesOf, putAt-next, getAt-middle}
 use Rattle.sizes.specs.Sizes.{checkWidth}

@@ -1,6 +1,6 @@
 // Settings cookies.
 use crate::say;
-use answers::front;
+use replay_words::front;
 use settings::PersistentSettings;
 use settings::Stored;
 use settings::Verified;

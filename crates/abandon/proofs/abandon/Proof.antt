@@ -3,9 +3,9 @@
 use mathlib.Core.Path.{sym, ap, _∙_}
 use lib.ListN.{set}
 use Rattle.model.specs.MemoryAfter.{Slots, withKept, withSlots}
-use Rattle.kept.proofs.Laws.{rowsAs-count, rowsAs-refused}
+use Rattle.batch_kept.proofs.Laws.{rowsAs-count, rowsAs-refused}
 use Rattle.abandon.specs.Abandon.{abandonMemory}
-use Rattle.kept.proofs.Checked.{refused-answer, refused-after}
+use Rattle.batch_kept.proofs.Checked.{refused-answer, refused-after}
 use Rattle.abandon.proofs.Laws.{fits-says, abandon-fits, abandon-done, abandon-after}
 use Rattle.model.specs.Store as S
 use Rattle.abandon.proofs.abandon.Statement.{statement}

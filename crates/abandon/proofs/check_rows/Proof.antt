@@ -5,8 +5,8 @@ use mathlib.Core.Bool.{true, false}
 use Prim.Native.Nat.{_-_, _≤_}
 use native.Mathlib.Nat.{sub-zero}
 use native.Mathlib.Omega.{arith}
-use Rattle.kept.specs.Kept.{firstBad, rowsFrom, rowOutOfRange}
-use Rattle.kept.proofs.Laws.{row-read, firstBad-here, firstBad-next, firstBad-none}
+use Rattle.batch_kept.specs.Kept.{firstBad, rowsFrom, rowOutOfRange}
+use Rattle.batch_kept.proofs.Laws.{row-read, firstBad-here, firstBad-next, firstBad-none}
 use Rattle.abandon.proofs.check_rows.Statement.{statement}
 use Rattle.abandon.proofs.check_rows.Tie as tie
 

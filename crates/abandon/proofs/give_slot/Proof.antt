@@ -5,8 +5,8 @@ use native.Mathlib.Omega.{arith}
 use Rattle.address.proofs.Laws.{unpacked-at, slots-range}
 use Rattle.model.specs.MemoryAfter.{Slots, gaveSlot}
 use Rattle.tables.proofs.LawsEntries.{else-is, start-lt}
-use Rattle.kept.specs.Kept.{byAddress}
-use Rattle.kept.proofs.Laws.{location-address, slab-end}
+use Rattle.batch_kept.specs.Kept.{byAddress}
+use Rattle.batch_kept.proofs.Laws.{location-address, slab-end}
 use Rattle.abandon.proofs.Laws.{gave-is}
 use borrow.Author.Needs.{needs}
 use Rattle.abandon.proofs.give_slot.Statement.{statement}

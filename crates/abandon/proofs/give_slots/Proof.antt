@@ -8,7 +8,7 @@ use native.Mathlib.Omega.{arith}
 use lib.ListN.{length}
 use Rattle.model.specs.Tables.{locationsOf}
 use Rattle.model.specs.MemoryAfter.{Slots, giveSlot, giveSlots}
-use Rattle.kept.specs.Kept.{rowsFrom}
+use Rattle.batch_kept.specs.Kept.{rowsFrom}
 use Rattle.abandon.proofs.Laws.{give-next, give-none}
 use Rattle.abandon.proofs.give_slots.Statement.{statement}
 use Rattle.abandon.proofs.give_slots.Tie as tie

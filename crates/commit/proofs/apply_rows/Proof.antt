@@ -7,7 +7,7 @@ use native.Mathlib.Omega.{arith}
 use lib.ListN.{length}
 use Rattle.model.specs.Memory.{Memory, memoryOf}
 use Rattle.model.specs.MemoryAfter.{commitAll}
-use Rattle.kept.specs.Kept.{rowsFrom}
+use Rattle.batch_kept.specs.Kept.{rowsFrom}
 use Rattle.commit.proofs.LawsApply.{commit-turn, commit-none}
 use Rattle.commit.proofs.apply_rows.Statement.{statement}
 use Rattle.commit.proofs.apply_rows.Tie as tie

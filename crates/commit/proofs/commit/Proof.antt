@@ -3,7 +3,7 @@
 use mathlib.Core.Path.{sym}
 use Rattle.model.specs.Store as S
 use Rattle.model.specs.Memory.{memoryOf}
-use Rattle.kept.proofs.Checked.{refused-answer, refused-after}
+use Rattle.batch_kept.proofs.Checked.{refused-answer, refused-after}
 use Rattle.commit.proofs.Laws.{fits-says, commit-fits, check-counted, check-told, commit-done, commit-leaves}
 use Rattle.commit.proofs.commit.Statement.{statement}
 use Rattle.commit.proofs.commit.Tie as tie

@@ -4,8 +4,8 @@ use native.Mathlib.Omega.{arith}
 use Rattle.address.proofs.Laws.{unpacked-at, slots-range}
 use Rattle.model.specs.MemoryAfter.{Slots, pendedSlot, setSlot}
 use Rattle.tables.proofs.LawsEntries.{else-is, start-lt}
-use Rattle.kept.specs.Kept.{byAddress}
-use Rattle.kept.proofs.Laws.{location-address}
+use Rattle.batch_kept.specs.Kept.{byAddress}
+use Rattle.batch_kept.proofs.Laws.{location-address}
 use Rattle.commit.proofs.pend_slot.Statement.{statement}
 use Rattle.commit.proofs.pend_slot.Tie as tie
 

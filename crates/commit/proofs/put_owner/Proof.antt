@@ -6,8 +6,8 @@ use Prim.Native.Nat.{ℕ, _+_, _*_, pred}
 use lib.ListN.{set}
 use Rattle.address.proofs.Laws.{unpacked-at}
 use Rattle.tables.proofs.LawsEntries.{else-is, start-lt}
-use Rattle.kept.specs.Kept.{byAddress}
-use Rattle.kept.proofs.Laws.{location-address}
+use Rattle.batch_kept.specs.Kept.{byAddress}
+use Rattle.batch_kept.proofs.Laws.{location-address}
 use Rattle.commit.proofs.put_owner.Statement.{statement}
 use Rattle.commit.proofs.put_owner.Tie as tie
 

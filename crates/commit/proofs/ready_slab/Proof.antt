@@ -3,7 +3,7 @@ use mathlib.Core.Path.{sym, _∙_}
 use native.Mathlib.Omega.{arith}
 use Rattle.address.proofs.Laws.{slots-range}
 use Rattle.tables.proofs.LawsEntries.{start-lt}
-use Rattle.kept.proofs.Laws.{slab-end}
+use Rattle.batch_kept.proofs.Laws.{slab-end}
 use Rattle.commit.proofs.LawsApply.{slab-busy, slab-quiet}
 use borrow.Author.Needs.{needs}
 use Rattle.commit.proofs.ready_slab.Statement.{statement}

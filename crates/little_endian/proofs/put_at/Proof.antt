@@ -5,7 +5,7 @@ use mathlib.Core.Logic.{⊎-elim}
 use Prim.Native.Nat.{ℕ, _-_}
 use lib.ListN.{take, drop}
 use borrow.Author.Tests.{le-leb, lt-leb}
-use Rattle.parts.proofs.Parts.{length-part, put-part}
+use Rattle.list_parts.proofs.Parts.{length-part, put-part}
 use Rattle.little_endian.specs.LittleEndian.{bytesOf, putAt}
 use borrow.Author.Needs.{needs}
 use Rattle.little_endian.proofs.put_at.Statement.{statement}

@@ -1,7 +1,7 @@
 -- `offer::refused` meets its contract: a verdict that refuses decides, else the next one does. Assumes nothing.
 use mathlib.Core.Path.{ap, _∙_}
 use borrow.Author.Needs.{needs}
-use Rattle.room.specs.Room.{roomIn}
+use Rattle.offer_room.specs.Room.{roomIn}
 use Rattle.offer.proofs.LawsOffer.{seq-stop, seq-on}
 use Rattle.offer.proofs.refused.Statement.{statement}
 use Rattle.offer.proofs.refused.Tie as tie

@@ -2,7 +2,7 @@
 -- slabs, are the memory after a release (release-after). Assumes nothing.
 use mathlib.Core.Path.{refl, sym, ap, _∙_}
 use borrow.Author.Needs.{needs}
-use Rattle.calls.proofs.Calls.{refused-after}
+use Rattle.model.proofs.Answered.{refused-after}
 use Rattle.release.specs.Releases.{releaseMemory, releasedAnswer}
 use Rattle.release.proofs.Laws.{release-length, release-after}
 use Rattle.release.proofs.release.Statement.{statement}

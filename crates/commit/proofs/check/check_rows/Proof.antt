@@ -5,8 +5,8 @@ use native.Mathlib.Omega.{arith}
 use mathlib.Core.Bool.{true, false}
 use Prim.Native.Nat.{_-_, _≤_}
 use native.Mathlib.Nat.{sub-zero}
-use Rattle.kept.specs.Kept.{firstBad, rowsFrom}
-use Rattle.kept.proofs.Laws.{row-read, firstBad-here, firstBad-next, firstBad-none}
+use Rattle.batch_kept.specs.Kept.{firstBad, rowsFrom}
+use Rattle.batch_kept.proofs.Laws.{row-read, firstBad-here, firstBad-next, firstBad-none}
 use Rattle.commit.specs.Commit.{rowBad}
 use Rattle.commit.proofs.check.check_rows.Statement.{statement}
 use Rattle.commit.proofs.check.check_rows.Tie as tie

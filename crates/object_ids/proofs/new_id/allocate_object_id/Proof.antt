@@ -1,7 +1,7 @@
 -- `object_ids::allocate_object_id` meets its contract: `next_id` gives the answer, which tells whether the call is granted (newId-granted)
 -- or writes nothing (refused-after). Assumes nothing.
 use mathlib.Core.Path.{refl, sym, ap, _∙_}
-use Rattle.calls.proofs.Calls.{refused-after}
+use Rattle.model.proofs.Answered.{refused-after}
 use Rattle.object_ids.specs.NewIds.{newIdMemory, newIdAnswer}
 use Rattle.object_ids.proofs.LawsNewId.{newId-granted}
 use Rattle.object_ids.proofs.new_id.allocate_object_id.Statement.{statement}

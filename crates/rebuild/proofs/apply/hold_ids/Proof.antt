@@ -6,7 +6,7 @@ use native.Mathlib.Omega.{arith}
 use denote.Ref.{now}
 use borrow.Author.Needs.{needs}
 use Rattle.model.specs.Rebuild.{rowsOf, heldBy, locatedBy}
-use Rattle.rows.proofs.Turns.{rest, rest-turn, rest-end}
+use Rattle.rebuild_rows.proofs.Turns.{rest, rest-turn, rest-end}
 use Rattle.rebuild.proofs.apply.hold_ids.Statement.{statement}
 use Rattle.rebuild.proofs.apply.hold_ids.Tie as tie
 

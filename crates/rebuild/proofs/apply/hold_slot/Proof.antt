@@ -9,8 +9,8 @@ use Rattle.address.specs.Address.{unit}
 use Rattle.model.specs.Memory.{putWord, usedWords}
 use Rattle.model.proofs.Tables.{write-set, write-none}
 use Rattle.tables.proofs.LawsEntries.{else-is}
-use Rattle.rows.specs.Checks.{isAt}
-use Rattle.rows.proofs.Turns.{isAt-unpacked}
+use Rattle.rebuild_rows.specs.Checks.{isAt}
+use Rattle.rebuild_rows.proofs.Turns.{isAt-unpacked}
 use Rattle.rebuild.proofs.Places.{place}
 use Rattle.rebuild.proofs.apply.hold_slot.Statement.{statement}
 use Rattle.rebuild.proofs.apply.hold_slot.Tie as tie

@@ -1,0 +1,48 @@
+// The batch that the store keeps between an offer and its commit or abandon (document 01, "Ids, slots, pending"): how many updates
+// it has, and which of them are out of range. Batches that no offer made are legal input.
+//
+//     let Rows::Count(n) = batch_kept::opened(&batch) else { .. };  // 12, none is open; 13, more than 256
+//     // the updates 0 to n - 1: ids from tables::KEPT_IDS on, new locations from tables::KEPT_LOCATIONS on
+//     batch_kept::out_of_range(ids, slots, id, location)
+ghost use mathlib.Core.Path.{_≡_};
+ghost use Rattle.batch_kept.specs.Kept.{rowsOf, outOfRange};
+use address::SlabAddress;
+use address::Unpacked;
+use refusal::Refusal;
+
+pub enum Rows {
+    Count(usize),
+    Refused(Refusal),
+}
+
+// The opened word says one more than there are updates, and 0 where no batch is open.
+const MOST_OPENED: u64 = 257;
+
+pub fn opened(batch: &[u64]) -> Rows
+    ensures { λ r. ⌜ r ≡ rowsOf (now (batch .entry)) ⌝ }
+{
+    let word = tables::get(batch, 0, 0);
+    if word == 0 {
+        return Rows::Refused(Refusal::of(Refusal::NO_BATCH));
+    }
+    if word > MOST_OPENED {
+        return Rows::Refused(Refusal::of(Refusal::TABLES_DISAGREE));
+    }
+    Rows::Count((word - 1) as usize)
+}
+
+// Whether a kept update's id, or its new location, is out of range. Location 0 is a Free's.
+pub fn out_of_range(ids: usize, slots: usize, id: u64, location: u64) -> bool
+    ensures { λ r. ⌜ r ≡ outOfRange ids slots id location ⌝ }
+{
+    if id < 1 {
+        return true;
+    }
+    if ids as u64 <= id {
+        return true;
+    }
+    if let Unpacked::Refused(_) = SlabAddress::unpack(slots, location) {
+        return true;
+    }
+    false
+}

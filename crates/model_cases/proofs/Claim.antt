@@ -1,0 +1,19 @@
+-- Each case gives what document 01 says: one claim over the table, which antt computes. Assumes nothing.
+use mathlib.Core.Path.{_≡_, refl}
+use mathlib.Core.Bool.{true}
+use lib.Ieee.{div, le, lt, eq, ofInt, toUnsigned, round, units, odd, size, span, climb}
+use Rattle.sizes.specs.Sizes.{classOf, slabFor, firstFit, slabSizes, fieldWidth, sizeOf}
+use Rattle.address.specs.Address.{badSlots, packed, unpacked}
+use Rattle.fragmentation.specs.Cutoff.{isRatio, cutoff}
+use Rattle.model.specs.Verdict.{_⨾_, test}
+use Rattle.model.specs.Tables.{badIds}
+use Rattle.model.specs.Ids.{bumpPending}
+use Rattle.model.specs.Batches.{room}
+use Rattle.model.specs.Defrag.{movesFrom}
+use Rattle.model.specs.Step.{refusal, grant, effect, answer, next}
+use Rattle.model.specs.Cases.{allHold, cases}
+use Rattle.model_cases.specs.Cases.{table}
+
+pub claim : allHold table ≡ true
+unfolding table cases classOf slabFor firstFit slabSizes fieldWidth sizeOf badSlots packed unpacked _⨾_ test answer next refusal grant effect badIds isRatio cutoff div le lt eq ofInt toUnsigned round units odd size span climb room bumpPending movesFrom
+claim = refl

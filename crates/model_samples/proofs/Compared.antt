@@ -1,0 +1,18 @@
+-- The sample of the oracle's histories agrees: every answer computes to the one that stands there. Assumes nothing.
+use mathlib.Core.Path.{_≡_, refl}
+use mathlib.Core.Bool.{true}
+use lib.Ieee.{div, le, lt, eq, ofInt, toUnsigned, round, units, odd, size, span, climb}
+use Rattle.sizes.specs.Sizes.{slabSizes, fieldWidth, firstFit, slabFor, sizeOf}
+use Rattle.address.specs.Address.{badSlots}
+use Rattle.fragmentation.specs.Cutoff.{isRatio, cutoff}
+use Rattle.model.specs.Verdict.{_⨾_, test}
+use Rattle.model.specs.Tables.{badIds}
+use Rattle.model.specs.Ids.{bumpPending}
+use Rattle.model.specs.Batches.{room}
+use Rattle.model.specs.Defrag.{movesFrom}
+use Rattle.model.specs.Step.{refusal, grant, effect, answer, next}
+use Rattle.model_samples.specs.Sample.{sample1, sample2, sample3, sample4, sample5, sample6, sample7, sample8, sampleAgrees}
+
+pub sample-agrees : sampleAgrees ≡ true
+unfolding sampleAgrees sample1 sample2 sample3 sample4 sample5 sample6 sample7 sample8 _⨾_ test answer next refusal grant effect badIds badSlots slabFor firstFit slabSizes fieldWidth sizeOf isRatio cutoff div le lt eq ofInt toUnsigned round units odd size span climb room bumpPending movesFrom
+sample-agrees = refl

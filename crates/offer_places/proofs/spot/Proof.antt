@@ -1,0 +1,52 @@
+-- `places::spot` meets its contract: its tests are those of `spotIn`. Assumes nothing.
+use mathlib.Core.Path.{sym, ap, _∙_}
+use borrow.Author.Needs.{needs}
+use Rattle.offer_places.specs.Places.{locationIn}
+use Rattle.offer_places.proofs.Laws.{spotIn-none, spotIn-at}
+use Rattle.offer_places.proofs.spot.Statement.{statement}
+use Rattle.offer_places.proofs.spot.Tie as tie
+
+returns : tie.Need-returns
+returns c = sym (spotIn-none _ _ _ (c .if1 .taken))
+
+add-get : tie.Need-add-get
+add-get c = search needs
+
+get-requires : tie.Need-get-requires
+get-requires c κs = search
+
+slab-marks-requires : tie.Need-slab-marks-requires
+slab-marks-requires c κs = search
+
+smallest-free-requires : tie.Need-smallest-free-requires
+smallest-free-requires c κs = search
+
+pack-requires : tie.Need-pack-requires
+pack-requires c κs = search
+
+enum-known-location : tie.Need-enum-known-location
+enum-known-location c = search
+
+enum-told : tie.Need-enum-told
+enum-told c = search
+
+returns-2 : tie.Need-returns-2
+returns-2 c = sym (spotIn-at _ _ _ _ _ _ _ (c .before .before .before .before .before .before .if1 .left) (c .before .before .before .before .before .get .ensures) (c .before .before .before .before .slab-marks .ensures) (c .before .before .before .smallest-free .ensures) (c .before .before .pack .ensures) ∙ ap locationIn (c .enum-told .given .1))
+
+returns-3 : tie.Need-returns-3
+returns-3 c = sym (spotIn-at _ _ _ _ _ _ _ (c .before .before .before .before .before .before .before .if1 .left) (c .before .before .before .before .before .before .get .ensures) (c .before .before .before .before .before .slab-marks .ensures) (c .before .before .before .before .smallest-free .ensures) (c .before .before .before .pack .ensures) ∙ ap locationIn (c .before .location .given .1))
+
+pub spot-spec : {M : Type 1} → statement M
+spot-spec =
+    tie.close
+    (tie.spec
+    returns
+    add-get
+    get-requires
+    slab-marks-requires
+    smallest-free-requires
+    pack-requires
+    enum-known-location
+    enum-told
+    returns-2
+    returns-3)

@@ -1,0 +1,51 @@
+-- The place stays within the line. Each turn passes a space; the measure is how many are left to pass.
+use Prim.Native.Nat.{_≤_, _-_}
+use lib.ListN.{length}
+use borrow.Author.Needs.{needs}
+use Rattle.replay_words.proofs.words.start.Statement.{statement}
+use Rattle.replay_words.proofs.words.start.Tie as tie
+
+abbrev Inv-loop : tie.InvT-loop
+Inv-loop line k at₀ i₀ at i = (i ≤ k) × (at ≤ length line)
+
+abbrev μ-loop : tie.MeasureT-loop
+μ-loop line k at₀ i₀ at i = k - i
+
+loop-holds : tie.Need-loop-holds Inv-loop μ-loop
+loop-holds c = search needs
+
+space-from-requires : tie.Need-space-from-requires Inv-loop μ-loop
+space-from-requires c κs = search needs
+
+returns : tie.Need-returns Inv-loop μ-loop
+returns c = search needs
+
+add-at : tie.Need-add-at Inv-loop μ-loop
+add-at c = search needs
+
+add-i : tie.Need-add-i Inv-loop μ-loop
+add-i c = search needs
+
+loop-less : tie.Need-loop-less Inv-loop μ-loop
+loop-less c = search needs
+
+loop-again : tie.Need-loop-again Inv-loop μ-loop
+loop-again c = search needs
+
+returns-2 : tie.Need-returns-2 Inv-loop μ-loop
+returns-2 c = search needs
+
+pub start-spec : {M : Type 1} → statement M
+start-spec =
+    tie.close
+    (tie.spec
+    Inv-loop
+    μ-loop
+    loop-holds
+    space-from-requires
+    returns
+    add-at
+    add-i
+    loop-less
+    loop-again
+    returns-2)
