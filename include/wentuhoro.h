@@ -34,7 +34,7 @@ enum wentuhoro_refusal {
     WENTUHORO_TOO_LARGE = 2,           /* an object beyond the largest class */
     WENTUHORO_OUT_OF_RANGE = 3,        /* a slab, slot or packed location out of range */
     WENTUHORO_CHECK_DIFFERS = 4,       /* the check differs */
-    WENTUHORO_TOO_LONG = 5,            /* a stored length, or an object to be written, beyond the room of its slot */
+    WENTUHORO_TOO_LONG = 5,            /* a stored length, or an object to be written, longer than its slot takes */
     WENTUHORO_UNKNOWN_VERSION = 6,     /* a cookie version that is not 1 */
     WENTUHORO_FANOUT_DIFFERS = 7,      /* the fanout differs */
     WENTUHORO_NO_SUCH_ID = 8,          /* id 0, at or past capacity, not held, or (lookup) without location */

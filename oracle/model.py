@@ -71,7 +71,7 @@ def field_width(size):
     return 8
 
 
-def room(size):
+def longest_object(size):
     """The longest object of a slab of this size."""
     return size - field_width(size) - CHECK_BYTES
 
@@ -117,9 +117,9 @@ def write_slot(slot_length, data):
     """The bytes of a written slot."""
     if slot_length not in SLAB_SIZES:
         return Refused(WRONG_LENGTH)
-    if len(data) > room(slot_length):
+    if len(data) > longest_object(slot_length):
         return Refused(BEYOND_ROOM)
-    zeros = bytes(room(slot_length) - len(data))
+    zeros = bytes(longest_object(slot_length) - len(data))
     body = bytes(data) + zeros + len(data).to_bytes(field_width(slot_length), "little")
     return body + check(body)
 
@@ -131,8 +131,8 @@ def read_slot(slot):
         return Refused(WRONG_LENGTH)
     if check(slot[: size - CHECK_BYTES]) != bytes(slot[size - CHECK_BYTES :]):
         return Refused(CHECK_DIFFERS)
-    length = int.from_bytes(slot[room(size) : size - CHECK_BYTES], "little")
-    if length > room(size):
+    length = int.from_bytes(slot[longest_object(size) : size - CHECK_BYTES], "little")
+    if length > longest_object(size):
         return Refused(BEYOND_ROOM)
     return bytes(slot[:length])
 

@@ -80,7 +80,7 @@ def list_classes(lists, chance):
     lengths = {0, 1, 2, 3, 59, 60, 250, 251, 65_528, 65_529, 4_294_967_284, 4_294_967_285}
     lengths |= {2**64 - 1, 2**64 - 12, 2**63, 17_179_869_173}
     for size in SLAB_SIZES:
-        lengths |= {model.room(size) - 1, model.room(size), model.room(size) + 1}
+        lengths |= {model.longest_object(size) - 1, model.longest_object(size), model.longest_object(size) + 1}
     lengths |= {chance.randint(0, 2**chance.randint(3, 35)) for _ in range(200)}
     for length in sorted(lengths):
         slab = model.slab_for_size(length)
@@ -107,7 +107,7 @@ def list_checks(lists, chance):
 def list_frames(lists, chance):
     sizes = [size for size in SLAB_SIZES if size <= LARGEST_SLOT_LISTED]
     for size in sizes:
-        room, width = model.room(size), model.field_width(size)
+        room, width = model.longest_object(size), model.field_width(size)
         for length in sorted({0, 1, 3, room - 1, room, room + 1, room + width + 4, chance.randint(0, room)}):
             seed, step = chance.randint(0, 255), chance.choice((0, 1, 7, 255))
             list_frame(lists, size, length, seed, step)
@@ -122,12 +122,12 @@ def list_frames(lists, chance):
 def list_frame(lists, size, length, seed, step):
     slot = model.write_slot(size, spoken.ramp(length, seed, step))
     call = f"frame {size} ramp {length} {seed} {step}"
-    tail = "" if refused(slot) else slot[model.room(size) :].hex()
+    tail = "" if refused(slot) else slot[model.longest_object(size) :].hex()
     leaf(lists, call, call, slot, f"ok {tail}", f"ok whole {tail}")
 
 
 def list_reads(lists, chance, size):
-    room, width = model.room(size), model.field_width(size)
+    room, width = model.longest_object(size), model.field_width(size)
     for kind in ("good", "rubbish", "rubbish", "long", "long", "flip", "flip", "flip"):
         length = chance.choice((0, room, chance.randint(0, room)))
         seed = chance.randint(0, 255)

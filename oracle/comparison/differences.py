@@ -21,18 +21,18 @@ SECOND = pack(8, 0, 1)
 
 def signed_slot(size, length):
     """Ones, a length field that no write gives, and a valid check."""
-    room, width = model.room(size), model.field_width(size)
+    room, width = model.longest_object(size), model.field_width(size)
     body = spoken.ramp(room, 1, 0) + length.to_bytes(width, "little")
     return body + model.check(body)
 
 
 def tail_of(slot):
-    return slot[model.room(len(slot)) :].hex()
+    return slot[model.longest_object(len(slot)) :].hex()
 
 
 def unframe(size, length):
     slot = signed_slot(size, length)
-    return f"unframe {size} ramp {model.room(size)} 1 0 {tail_of(slot)}", lambda: model.read_slot(slot)
+    return f"unframe {size} ramp {model.longest_object(size)} 1 0 {tail_of(slot)}", lambda: model.read_slot(slot)
 
 
 def after(calls, ids=9):
@@ -84,7 +84,7 @@ DIFFERENCES = [
     # Refused where the Rust panics, or where it goes on.
     ("beyond-the-largest-class", "mapper", [("class 17179869173", "none")],
      lambda: model.slab_for_size(17_179_869_173), Refused(2)),
-    ("object-beyond-the-room", "mapper",
+    ("object-beyond-the-longest", "mapper",
      [("frame 64 ramp 60 1 1", "panic assertion failed: len + overhead_for_size(data.len()) <= self.slot_size")],
      lambda: model.write_slot(64, bytes(60)), Refused(5)),
     ("class-wraps", "mapper", [("class 18446744073709551604", "ok 0")],

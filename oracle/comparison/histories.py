@@ -25,7 +25,7 @@ def some_lengths(chance, largest):
     lengths = []
     for _ in range(chance.choice((1, 1, 2, 3))):
         top_class = SLABS - 1 if largest is None else model.slab_for_size(largest)
-        room = model.room(SLAB_SIZES[chance.randint(0, top_class)])
+        room = model.longest_object(SLAB_SIZES[chance.randint(0, top_class)])
         length = chance.choice((room, max(room - 1, 0), chance.randint(0, room), 3))
         if length not in OTHER_CLASS_IN_RUST:
             lengths.append(length)

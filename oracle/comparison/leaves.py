@@ -19,7 +19,7 @@ def lengths_at_limits(chance):
     """Around each slab's size and room, around powers of two, and anywhere."""
     lengths = set(range(300))
     for size in SLAB_SIZES:
-        for middle in (size, model.room(size)):
+        for middle in (size, model.longest_object(size)):
             lengths.update(range(max(middle - 16, 0), middle + 17))
     for power in range(64):
         lengths.update((2**power - 1, 2**power, 2**power + 1))
@@ -50,7 +50,7 @@ def compare_checks(beside, chance):
 
 
 def object_lengths(chance, size):
-    room = model.room(size)
+    room = model.longest_object(size)
     lengths = {0, 1, 2, 3, room - 1, room} | {chance.randint(0, room) for _ in range(4)}
     return sorted(length for length in lengths if length >= 0)
 
@@ -63,12 +63,12 @@ def compare_frames(beside, chance):
         for length in object_lengths(chance, size):
             seed, step = chance.randint(0, 255), chance.choice((0, 1, 7, 255))
             slot = model.write_slot(size, spoken.ramp(length, seed, step))
-            tail = slot[model.room(size) :]
+            tail = slot[model.longest_object(size) :]
             beside.call(f"frame {size} ramp {length} {seed} {step}", f"ok whole {tail.hex()}")
             beside.call(f"unframe {size} ramp {length} {seed} {step} {tail.hex()}", spoken.ok(length))
         compare_damaged(beside, chance, size)
         # An object beyond the room: the Rust asserts, except where its own overhead is the smaller one.
-        room = model.room(size)
+        room = model.longest_object(size)
         for beyond in range(room + 1, room + 12):
             if beyond not in OTHER_CLASS_IN_RUST:
                 assert model.write_slot(size, bytes(beyond)) == model.Refused(model.BEYOND_ROOM)
@@ -94,7 +94,7 @@ def expected_read(slot):
 
 
 def compare_damaged(beside, chance, size):
-    room, width = model.room(size), model.field_width(size)
+    room, width = model.longest_object(size), model.field_width(size)
     for _ in range(12):
         length = chance.randint(0, min(room, 400))
         seed = chance.randint(0, 255)

@@ -67,7 +67,7 @@ def leaf(name, words):
         size, data = words.number(), words.bytes()
         slot = model.write_slot(size, data)
         if not refused(slot):
-            room = model.room(size)
+            room = model.longest_object(size)
             assert slot[:room] == data + bytes(room - len(data))
             return told(slot, slot[room:].hex())
         return told(slot)

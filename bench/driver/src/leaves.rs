@@ -33,9 +33,15 @@ fn calls_for(n: usize) -> u32 {
     (200_000 / (n + 20)).max(1) as u32
 }
 
-fn checks(rounds: u32, picture: &mut Picture) {
-    println!("\n### Check: ns a call\n\n| bytes | ours | zlib | crc32fast's tables | zlib / ours | tables / ours |\n|--:|--:|--:|--:|--:|--:|");
-    for n in [0, 1, 4, 7, 8, 16, 31, 32, 60, 64, 65, 68, 72, 100, 128, 130, 252, 256, 512, 1020, 1024, 2044, 4092, 16380, 65532, 1048572] {
+/// What a cookie and a slot of the smaller and larger slabs have before their check: the slab's size less four.
+const CHECKED: [usize; 17] = [60, 76, 92, 108, 124, 156, 188, 220, 252, 508, 1020, 2044, 4092, 16380, 65532, 262140, 1048572];
+
+/// Lengths that no slot and no cookie has: few bytes, and whole blocks of the tables with a few bytes around them.
+const OTHERS: [usize; 15] = [0, 1, 4, 7, 8, 16, 31, 32, 64, 65, 68, 128, 130, 256, 1024];
+
+fn checks(title: &str, lengths: &[usize], rounds: u32, picture: &mut Picture) {
+    println!("\n### {title}: ns a call\n\n| bytes | ours | zlib | crc32fast's tables | zlib / ours | tables / ours |\n|--:|--:|--:|--:|--:|--:|");
+    for &n in lengths {
         let bytes = ramp(n);
         assert_eq!(ours::crc32(&bytes), zlib(&bytes));
         assert_eq!(ours::crc32(&bytes), table(&bytes));
@@ -44,7 +50,7 @@ fn checks(rounds: u32, picture: &mut Picture) {
         let mut c = |calls| (0..calls).for_each(|_| ignore(black_box(table(black_box(&bytes)))));
         let t = best(rounds, calls_for(n), &mut [&mut a, &mut b, &mut c]);
         println!("| {n} | {:.1} | {:.1} | {:.1} | {:.2} | {:.2} |", t[0], t[1], t[2], t[1] / t[0], t[2] / t[0]);
-        picture.bar("check, beside crc32fast's tables", format!("{n} bytes"), t[2] / t[0]);
+        picture.bar(&format!("{title}, beside crc32fast's tables").to_lowercase(), format!("{n} bytes"), t[2] / t[0]);
     }
 }
 
@@ -90,7 +96,8 @@ fn frames(rounds: u32) {
 }
 
 pub fn run(rounds: u32, picture: &mut Picture) {
-    checks(rounds, picture);
+    checks("Check", &CHECKED, rounds, picture);
+    checks("Check of other lengths", &OTHERS, rounds, picture);
     classes(rounds, picture);
     frames(rounds);
 }

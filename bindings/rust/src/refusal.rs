@@ -32,7 +32,7 @@ pub enum RefusalKind {
     OutOfRange = 3,
     /// The check differs.
     CheckDiffers = 4,
-    /// A stored length, or an object to be written, beyond the room of its slot.
+    /// A stored length, or an object to be written, longer than its slot takes.
     TooLong = 5,
     /// A cookie version that is not 1.
     UnknownVersion = 6,

@@ -41,14 +41,14 @@ pub fn slab_for_size(n: u64) -> Result<usize, Refusal> {
 pub struct Slab;
 
 impl Slab {
-    /// Refuses a slot that has none of the [`SLAB_SIZES`] with 1, an object beyond the slot's room with 5.
+    /// Refuses a slot that has none of the [`SLAB_SIZES`] with 1, an object longer than the slot takes with 5.
     pub fn write(slot: &mut [u8], object: &[u8]) -> Result<(), Refusal> {
         let status = unsafe { raw::wentuhoro_frame_write(slot.as_mut_ptr(), slot.len(), object.as_ptr(), object.len()) };
         Refusal::unless_granted(status)
     }
 
     /// The object: the slot's own first bytes, no copy. Refuses a slot of another length with 1, another check with 4, a stored length
-    /// beyond the room with 5.
+    /// beyond what the slot takes with 5.
     pub fn read(slot: &[u8]) -> Result<&[u8], Refusal> {
         let mut length = 0;
         Refusal::unless_granted(unsafe { raw::wentuhoro_frame_read(slot.as_ptr(), slot.len(), &mut length, 1) })?;

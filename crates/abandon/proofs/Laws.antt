@@ -25,8 +25,8 @@ use Rattle.model.proofs.Verdicts.{test-ok, first-ok}
 use Rattle.tables.specs.Shapes.{slabFits}
 use Rattle.tables.proofs.Lengths.{slabFits-read}
 use Rattle.batch_kept.specs.declared.Rows.the-variants as R
-use Rattle.batch_kept.specs.Kept.{rowsOf, rowsFrom, rowsAs, firstBad, rowOutOfRange}
-use Rattle.batch_kept.proofs.Laws.{abandonRows-first, badRow-read, rowsFrom-next, rowsFrom-none, slab-part, put-slab}
+use Rattle.batch_kept.specs.Kept.{countOf, keptFrom, rowsAs, firstBad, badKeptRow}
+use Rattle.batch_kept.proofs.Laws.{abandonRows-first, badRow-read, keptFrom-next, keptFrom-none, slab-part, put-slab}
 use Rattle.batch_kept.proofs.Checked.{check-count, check-refused, check-kept, granted-answer, granted-after}
 
 -- ---- lengths
@@ -65,21 +65,21 @@ module _ (m : Memory) where
   unfolding test _⨾_
   fits-pass e = simp e
 
-  abandon-rows : fits m ≡ true → refusal (read m) S.abandon ≡ (oneOpen (read m) ⨾ firstBad (rowOutOfRange (m .ids) (m .slots)) 0 (kept (read m)))
+  abandon-rows : fits m ≡ true → refusal (read m) S.abandon ≡ (oneOpen (read m) ⨾ firstBad (badKeptRow (m .ids) (m .slots)) 0 (kept (read m)))
   abandon-rows e =
-      let rows = abandonRows-first (read m) (rowOutOfRange (m .ids) (m .slots)) (λ r. badRow-read m r (fits-says e .capacity)) 0 (kept (read m)) in
+      let rows = abandonRows-first (read m) (badKeptRow (m .ids) (m .slots)) (λ r. badRow-read m r (fits-says e .capacity)) 0 (kept (read m)) in
       chain ∙ fits-pass e ∙ ap (λ v. oneOpen (read m) ⨾ v) rows
 
   pub abandon-fits : refusal (read m) S.abandon ≡ ok → fits m ≡ true
   abandon-fits e = not-false _ (test-ok (not (fits m)) wrongShape 0 (first-ok _ _ (sym chain ∙ e)))
 
   -- ---- what the check tells
-  pub abandon-count : fits m ≡ true → (n : ℕ) → rowsOf (m .batch) ≡ R.Count n
-      → rowsAs (firstBad (rowOutOfRange (m .ids) (m .slots)) 0 (rowsFrom (m .batch) n 0)) n ≡ rowsAs (refusal (read m) S.abandon) (pred (getD (m .batch) 0 0))
-  abandon-count e n q = check-count m S.abandon (rowOutOfRange (m .ids) (m .slots)) (fits-says e .batch-long) (abandon-rows e) n q
+  pub abandon-count : fits m ≡ true → (n : ℕ) → countOf (m .batch) ≡ R.Count n
+      → rowsAs (firstBad (badKeptRow (m .ids) (m .slots)) 0 (keptFrom (m .batch) n 0)) n ≡ rowsAs (refusal (read m) S.abandon) (pred (getD (m .batch) 0 0))
+  abandon-count e n q = check-count m S.abandon (badKeptRow (m .ids) (m .slots)) (fits-says e .batch-long) (abandon-rows e) n q
 
-  pub abandon-refused : fits m ≡ true → (r : Refusal) (p : ℕ) → rowsOf (m .batch) ≡ R.Refused r → R.Refused r ≡ rowsAs (refusal (read m) S.abandon) p
-  abandon-refused e r p q = check-refused m S.abandon (rowOutOfRange (m .ids) (m .slots)) (fits-says e .batch-long) (abandon-rows e) r p q
+  pub abandon-refused : fits m ≡ true → (r : Refusal) (p : ℕ) → countOf (m .batch) ≡ R.Refused r → R.Refused r ≡ rowsAs (refusal (read m) S.abandon) p
+  abandon-refused e r p q = check-refused m S.abandon (badKeptRow (m .ids) (m .slots)) (fits-says e .batch-long) (abandon-rows e) r p q
 
   -- ---- where nothing is refused
   module _ (e : refusal (read m) S.abandon ≡ ok) where
@@ -88,13 +88,13 @@ module _ (m : Memory) where
     abandon-done = granted-answer m S.abandon e
 
     pub abandon-after : (n : ℕ) → n ≡ pred (getD (m .batch) 0 0)
-        → memoryAfter m S.abandon ≡ withKept (withSlots m (giveSlots (m .slots) (slotsOf m) (locationsOf (rowsFrom (m .batch) n 0)))) (set (m .batch) 0 0)
+        → memoryAfter m S.abandon ≡ withKept (withSlots m (giveSlots (m .slots) (slotsOf m) (locationsOf (keptFrom (m .batch) n 0)))) (set (m .batch) 0 0)
     unfolding memoryEffect
     abandon-after n q =
         let f = abandon-fits e in
         granted-after m S.abandon e
         ∙ ap (λ (rs : List Row). withKept (withSlots m (giveSlots (m .slots) (slotsOf m) (locationsOf rs))) (set (m .batch) 0 0))
-        (check-kept m S.abandon (rowOutOfRange (m .ids) (m .slots)) (fits-says f .batch-long) (abandon-rows f) e n q)
+        (check-kept m S.abandon (badKeptRow (m .ids) (m .slots)) (fits-says f .batch-long) (abandon-rows f) e n q)
 
 -- ---- one slot
 pub gave-is : (cap k j : ℕ) (s : Slots) (hint back : ℕ) (p : List ℕ) → hint ≡ getD (s .words) (237 + (k + 1)) 0
@@ -107,9 +107,9 @@ gave-is cap k j s hint back p eh eb ep =
 
 -- ---- all of them
 module _ (cap : ℕ) (s : Slots) (b : List ℕ) (n i : ℕ) where
-  pub give-next : i < n → giveSlots cap s (locationsOf (rowsFrom b (n - i) i))
-      ≡ giveSlots cap (giveSlot cap s (getD b (257 + i) 0)) (locationsOf (rowsFrom b (n - (i + 1)) (i + 1)))
-  give-next h = ap (λ rs. giveSlots cap s (locationsOf rs)) (rowsFrom-next b n i h)
+  pub give-next : i < n → giveSlots cap s (locationsOf (keptFrom b (n - i) i))
+      ≡ giveSlots cap (giveSlot cap s (getD b (257 + i) 0)) (locationsOf (keptFrom b (n - (i + 1)) (i + 1)))
+  give-next h = ap (λ rs. giveSlots cap s (locationsOf rs)) (keptFrom-next b n i h)
 
-  pub give-none : n ≤ i → giveSlots cap s (locationsOf (rowsFrom b (n - i) i)) ≡ s
-  give-none h = ap (λ rs. giveSlots cap s (locationsOf rs)) (rowsFrom-none b n i h)
+  pub give-none : n ≤ i → giveSlots cap s (locationsOf (keptFrom b (n - i) i)) ≡ s
+  give-none h = ap (λ rs. giveSlots cap s (locationsOf rs)) (keptFrom-none b n i h)

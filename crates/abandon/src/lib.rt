@@ -17,7 +17,7 @@ ghost use Rattle.model.specs.Tables.{locationsOf};
 ghost use Rattle.model.specs.Memory.{Memory, read};
 ghost use Rattle.model.specs.MemoryAfter.{Slots, giveSlot, giveSlots, memoryAfter};
 ghost use Rattle.model.specs.Step.{refusal, answer};
-ghost use Rattle.batch_kept.specs.Kept.{rowsFrom, rowOutOfRange, firstBad, rowsAs};
+ghost use Rattle.batch_kept.specs.Kept.{keptFrom, badKeptRow, firstBad, rowsAs};
 ghost use Rattle.abandon.specs.Abandon.{abandonMemory, abandonedAnswer};
 use address::SlabAddress;
 use address::Unpacked;
@@ -36,7 +36,7 @@ pub enum Abandoned {
 
 // The n kept updates, or 13 for the first that is out of range.
 fn check_rows(caps: Capacities, batch: &[u64], n: usize) -> Rows
-    ensures { λ r. ⌜ r ≡ rowsAs (firstBad (rowOutOfRange (caps .ids) (caps .slots)) 0 (rowsFrom (now (batch .entry)) n 0)) n ⌝ }
+    ensures { λ r. ⌜ r ≡ rowsAs (firstBad (badKeptRow (caps .ids) (caps .slots)) 0 (keptFrom (now (batch .entry)) n 0)) n ⌝ }
 {
     let ids = caps.ids;
     let slots = caps.slots;
@@ -44,7 +44,7 @@ fn check_rows(caps: Capacities, batch: &[u64], n: usize) -> Rows
     while i < n {
         let id = tables::get(batch, KEPT_IDS, i);
         let location = tables::get(batch, KEPT_LOCATIONS, i);
-        if batch_kept::out_of_range(ids, slots, id, location) {
+        if batch_kept::bad_kept(ids, slots, id, location) {
             return Rows::Refused(Refusal::at(Refusal::TABLES_DISAGREE, i));
         }
         i += 1;
@@ -86,7 +86,7 @@ fn give_slot(slots: usize, slot_marks: &mut [u8], tallies: &mut [u64], location:
 // The slots of the n kept updates are given back, in list order.
 fn give_slots(slots: usize, slot_marks: &mut [u8], batch: &[u64], tallies: &mut [u64], n: usize)
     requires { ⌜ (badSlots slots ≡ false) × (length (now «slot_marks») ≡ slabs * slots) ⌝ }
-    ensures { λ _. ⌜ _≡_ {A = Slots} (record { marks = now («slot_marks» .exit); words = now (tallies .exit) }) (giveSlots slots (record { marks = now («slot_marks» .entry); words = now (tallies .entry) }) (locationsOf (rowsFrom (now (batch .entry)) n 0))) ⌝ }
+    ensures { λ _. ⌜ _≡_ {A = Slots} (record { marks = now («slot_marks» .exit); words = now (tallies .exit) }) (giveSlots slots (record { marks = now («slot_marks» .entry); words = now (tallies .entry) }) (locationsOf (keptFrom (now (batch .entry)) n 0))) ⌝ }
 {
     let mut i: usize = 0;
     while i < n {

@@ -14,26 +14,26 @@ use Rattle.model.specs.Step.{oneOpen, refusal, grant, answer}
 use Rattle.model.proofs.Verdicts.{first-ok}
 use Rattle.batch_kept.specs.declared.Rows.{Rows}
 use Rattle.batch_kept.specs.declared.Rows.the-variants as R
-use Rattle.batch_kept.specs.Kept.{rowsOf, rowsFrom, rowsThen, rowsAs, firstBad}
-use Rattle.batch_kept.proofs.Laws.{oneOpen-rows, oneOpen-few, rowsOf-count, kept-rows}
+use Rattle.batch_kept.specs.Kept.{countOf, keptFrom, rowsThen, rowsAs, firstBad}
+use Rattle.batch_kept.proofs.Laws.{oneOpen-rows, oneOpen-few, countOf-count, kept-rows}
 
 -- ---- once the lengths are right: the opened word, then the first bad row
 module _ (m : Memory) (call : Call) (bad : Row → Bool) (long : length (m .batch) ≡ 513) (e : refusal (read m) call ≡ (oneOpen (read m) ⨾ firstBad bad 0 (kept (read m)))) where
-  opened-then : (x : Rows) → rowsOf (m .batch) ≡ x → refusal (read m) call ≡ rowsThen x (firstBad bad 0 (kept (read m)))
+  opened-then : (x : Rows) → countOf (m .batch) ≡ x → refusal (read m) call ≡ rowsThen x (firstBad bad 0 (kept (read m)))
   opened-then x q = e ∙ oneOpen-rows m (firstBad bad 0 (kept (read m))) ∙ ap (λ y. rowsThen y (firstBad bad 0 (kept (read m)))) q
 
-  pub check-count : (n : ℕ) → rowsOf (m .batch) ≡ R.Count n
-      → rowsAs (firstBad bad 0 (rowsFrom (m .batch) n 0)) n ≡ rowsAs (refusal (read m) call) (pred (getD (m .batch) 0 0))
+  pub check-count : (n : ℕ) → countOf (m .batch) ≡ R.Count n
+      → rowsAs (firstBad bad 0 (keptFrom (m .batch) n 0)) n ≡ rowsAs (refusal (read m) call) (pred (getD (m .batch) 0 0))
   check-count n q =
-      let z = rowsOf-count (m .batch) n q in
+      let z = countOf-count (m .batch) n q in
       let r = opened-then (R.Count n) q ∙ ap (firstBad bad 0) (kept-rows m n long (z .0) (z .1)) in
       λ i. rowsAs (sym r i) (z .0 i)
 
-  pub check-refused : (r : Refusal) (p : ℕ) → rowsOf (m .batch) ≡ R.Refused r → R.Refused r ≡ rowsAs (refusal (read m) call) p
+  pub check-refused : (r : Refusal) (p : ℕ) → countOf (m .batch) ≡ R.Refused r → R.Refused r ≡ rowsAs (refusal (read m) call) p
   check-refused r p q = sym (ap (λ v. rowsAs v p) (opened-then (R.Refused r) q))
 
   -- where nothing is refused, the kept rows are as many as the opened word says
-  pub check-kept : refusal (read m) call ≡ ok → (n : ℕ) → n ≡ pred (getD (m .batch) 0 0) → kept (read m) ≡ rowsFrom (m .batch) n 0
+  pub check-kept : refusal (read m) call ≡ ok → (n : ℕ) → n ≡ pred (getD (m .batch) 0 0) → kept (read m) ≡ keptFrom (m .batch) n 0
   check-kept g n q =
       let few = oneOpen-few m (first-ok (oneOpen (read m)) _ (sym e ∙ g)) in
       kept-rows m n long q (omega arith)

@@ -32,11 +32,11 @@ use Rattle.model.specs.Batches.{badRow, abandonRows, commitRows}
 use Rattle.model.proofs.Verdicts.{test-ok, then-ok}
 use Rattle.model.proofs.Tables.{isLocation-says, isLocation-nz}
 use Rattle.batch_kept.specs.declared.Rows.the-variants as R
-use Rattle.batch_kept.specs.Kept.{rowsBy, rowsOf, rowsThen, rowsAs, rowsFrom, noAddress, outOfRange, firstBad, byAddress}
+use Rattle.batch_kept.specs.Kept.{countBy, countOf, rowsThen, rowsAs, keptFrom, noAddress, badKept, firstBad, byAddress}
 
 -- ---- rows
-pairs-from : (b : List ℕ) (n i : ℕ) → length b ≡ 513 → i + n ≤ 256 → pairs n (drop i (take 256 (drop 1 b))) (drop i (drop 257 b)) ≡ rowsFrom b n i
-unfolding rowsFrom
+pairs-from : (b : List ℕ) (n i : ℕ) → length b ≡ 513 → i + n ≤ 256 → pairs n (drop i (take 256 (drop 1 b))) (drop i (drop 257 b)) ≡ keptFrom b n i
+unfolding keptFrom
 pairs-from b zero i l h = refl
 pairs-from b (suc n) i l h =
     let p : i < length (take 256 (drop 1 b)) = simp (length-take, length-drop, l) (omega arith) in
@@ -46,17 +46,17 @@ pairs-from b (suc n) i l h =
     rw (drop-cons (take 256 (drop 1 b)) i 0 p, drop-cons (drop 257 b) i 0 q, x, y)
     (ap (λ rs. (getD b (1 + i) 0, getD b (257 + i) 0) ∷ rs) (pairs-from b n (suc i) l (omega arith)))
 
-pub pairs-rows : (b : List ℕ) (n : ℕ) → length b ≡ 513 → n ≤ 256 → pairs n (take 256 (drop 1 b)) (drop 257 b) ≡ rowsFrom b n 0
+pub pairs-rows : (b : List ℕ) (n : ℕ) → length b ≡ 513 → n ≤ 256 → pairs n (take 256 (drop 1 b)) (drop 257 b) ≡ keptFrom b n 0
 pairs-rows b n l h = pairs-from b n 0 l (omega arith)
 
 -- the row at i, and those after it
-pub rowsFrom-next : (b : List ℕ) (n i : ℕ) → i < n → rowsFrom b (n - i) i ≡ (getD b (1 + i) 0, getD b (257 + i) 0) ∷ rowsFrom b (n - (i + 1)) (i + 1)
-unfolding rowsFrom
-rowsFrom-next b n i h = let e : n - i ≡ suc (n - (i + 1)) = omega arith in rw (e, add-one i)
+pub keptFrom-next : (b : List ℕ) (n i : ℕ) → i < n → keptFrom b (n - i) i ≡ (getD b (1 + i) 0, getD b (257 + i) 0) ∷ keptFrom b (n - (i + 1)) (i + 1)
+unfolding keptFrom
+keptFrom-next b n i h = let e : n - i ≡ suc (n - (i + 1)) = omega arith in rw (e, add-one i)
 
-pub rowsFrom-none : (b : List ℕ) (n i : ℕ) → n ≤ i → rowsFrom b (n - i) i ≡ []
-unfolding rowsFrom
-rowsFrom-none b n i h = let e : n - i ≡ 0 = omega arith in rw e
+pub keptFrom-none : (b : List ℕ) (n i : ℕ) → n ≤ i → keptFrom b (n - i) i ≡ []
+unfolding keptFrom
+keptFrom-none b n i h = let e : n - i ≡ 0 = omega arith in rw e
 
 -- ---- the first bad row
 
@@ -65,18 +65,18 @@ pub row-read : (bad : Row → Bool) (id l x y : ℕ) (r told : Bool) → id ≡ 
 row-read bad id l x y r told p q e h = (λ k. bad (sym p k, sym q k)) ∙ sym e ∙ h
 
 module _ (bad : Row → Bool) (b : List ℕ) (n i : ℕ) where
-  pub firstBad-here : i < n → bad (getD b (1 + i) 0, getD b (257 + i) 0) ≡ true → firstBad bad i (rowsFrom b (n - i) i) ≡ refuse tablesDisagree i
+  pub firstBad-here : i < n → bad (getD b (1 + i) 0, getD b (257 + i) 0) ≡ true → firstBad bad i (keptFrom b (n - i) i) ≡ refuse tablesDisagree i
   unfolding firstBad test _⨾_
-  firstBad-here h e = rw (rowsFrom-next b n i h, e)
+  firstBad-here h e = rw (keptFrom-next b n i h, e)
 
   pub firstBad-next : i < n → bad (getD b (1 + i) 0, getD b (257 + i) 0) ≡ false
-      → firstBad bad i (rowsFrom b (n - i) i) ≡ firstBad bad (i + 1) (rowsFrom b (n - (i + 1)) (i + 1))
+      → firstBad bad i (keptFrom b (n - i) i) ≡ firstBad bad (i + 1) (keptFrom b (n - (i + 1)) (i + 1))
   unfolding firstBad test _⨾_
-  firstBad-next h e = rw (rowsFrom-next b n i h, e, add-one i)
+  firstBad-next h e = rw (keptFrom-next b n i h, e, add-one i)
 
-  pub firstBad-none : n ≤ i → firstBad bad i (rowsFrom b (n - i) i) ≡ ok
+  pub firstBad-none : n ≤ i → firstBad bad i (keptFrom b (n - i) i) ≡ ok
   unfolding firstBad
-  firstBad-none h = rw (rowsFrom-none b n i h)
+  firstBad-none h = rw (keptFrom-none b n i h)
 
 pub abandonRows-first : (s : Store) (bad : Row → Bool) → ((r : Row) → badRow s r ≡ bad r) → (i : ℕ) (rs : List Row) → abandonRows s i rs ≡ firstBad bad i rs
 unfolding firstBad
@@ -90,14 +90,14 @@ commitRows-first s bad h i [] = refl
 commitRows-first s bad h i (r ∷ rs) = λ k. test (h r k) tablesDisagree i ⨾ commitRows-first s bad h (suc i) rs k
 
 -- ---- how many rows
-one-open : (o : ℕ) (v : Verdict) → ((test (not (ltb 0 o)) noBatch 0 ⨾ test (ltb 257 o) tablesDisagree 0) ⨾ v) ≡ rowsThen (rowsBy o) v
+one-open : (o : ℕ) (v : Verdict) → ((test (not (ltb 0 o)) noBatch 0 ⨾ test (ltb 257 o) tablesDisagree 0) ⨾ v) ≡ rowsThen (countBy o) v
 unfolding test _⨾_
 one-open zero v = refl
 one-open (suc o) v =
     let p : ltb 0 (suc o) ≡ true = lt-ltb 0 (suc o) (omega arith) in
     by-test (ltb 257 (suc o)) (λ e. simp (p, eqb·suc-zero o, e)) (λ e. simp (p, eqb·suc-zero o, e))
 
-rows-count : (o n : ℕ) → rowsBy o ≡ R.Count n → (n ≡ pred o) × (n ≤ 256)
+rows-count : (o n : ℕ) → countBy o ≡ R.Count n → (n ≡ pred o) × (n ≤ 256)
 rows-count zero n e = let z : _≡_ {A = ℕ} 0 1 = cc in absurd (omega arith)
 rows-count (suc o) n e =
     by-test (ltb 257 (suc o))
@@ -109,20 +109,20 @@ rows-count (suc o) n e =
     let r : suc o - 1 ≡ n = cc in
     (omega arith, omega (arith, ltb-false 257 (suc o) h)))
 
-pub oneOpen-rows : (m : Memory) (v : Verdict) → (oneOpen (read m) ⨾ v) ≡ rowsThen (rowsOf (m .batch)) v
-unfolding read rowsOf
+pub oneOpen-rows : (m : Memory) (v : Verdict) → (oneOpen (read m) ⨾ v) ≡ rowsThen (countOf (m .batch)) v
+unfolding read countOf
 oneOpen-rows m v = one-open (getD (m .batch) 0 0) v
 
-pub rowsOf-count : (b : List ℕ) (n : ℕ) → rowsOf b ≡ R.Count n → (n ≡ pred (getD b 0 0)) × (n ≤ 256)
-unfolding rowsOf
-rowsOf-count b n e = rows-count (getD b 0 0) n e
+pub countOf-count : (b : List ℕ) (n : ℕ) → countOf b ≡ R.Count n → (n ≡ pred (getD b 0 0)) × (n ≤ 256)
+unfolding countOf
+countOf-count b n e = rows-count (getD b 0 0) n e
 
 -- where a batch of at most 256 is open
 pub oneOpen-few : (m : Memory) → oneOpen (read m) ≡ ok → pred (getD (m .batch) 0 0) ≤ 256
 unfolding read
 oneOpen-few m e = let h = ltb-false 257 (getD (m .batch) 0 0) (test-ok (ltb 257 (getD (m .batch) 0 0)) tablesDisagree 0 (then-ok (test (not (ltb 0 (getD (m .batch) 0 0))) noBatch 0) _ e)) in omega arith
 
-pub kept-rows : (m : Memory) (n : ℕ) → length (m .batch) ≡ 513 → n ≡ pred (getD (m .batch) 0 0) → n ≤ 256 → kept (read m) ≡ rowsFrom (m .batch) n 0
+pub kept-rows : (m : Memory) (n : ℕ) → length (m .batch) ≡ 513 → n ≡ pred (getD (m .batch) 0 0) → n ≤ 256 → kept (read m) ≡ keptFrom (m .batch) n 0
 unfolding read
 kept-rows m n l e h = ap (λ x. pairs x (take 256 (drop 1 (m .batch))) (drop 257 (m .batch))) (sym e) ∙ pairs-rows (m .batch) n l h
 
@@ -158,8 +158,8 @@ not-and : (a b : Bool) → not (a && b) ≡ (not a || not b)
 not-and true b = refl
 not-and false b = refl
 
-pub badRow-read : (m : Memory) (r : Row) → badSlots (m .slots) ≡ false → badRow (read m) r ≡ outOfRange (m .ids) (m .slots) (r .0) (r .1)
-unfolding outOfRange read
+pub badRow-read : (m : Memory) (r : Row) → badSlots (m .slots) ≡ false → badRow (read m) r ≡ badKept (m .ids) (m .slots) (r .0) (r .1)
+unfolding badKept read
 badRow-read m r c =
     rw (noAddress-is (m .slots) (r .1) c) (not-and (ltb 0 (r .0) && ltb (r .0) (m .ids)) (eqb (r .1) 0 || isLocation (m .slots) (r .1)))
 

@@ -15,19 +15,19 @@ use Rattle.batch_kept.specs.declared.Rows.{Rows}
 use Rattle.batch_kept.specs.declared.Rows.the-variants as R
 
 -- how many updates are kept, by the opened word
-abbrev pub rowsBy : ℕ → Rows
-rowsBy opened =
+abbrev pub countBy : ℕ → Rows
+countBy opened =
     cond (eqb opened 0) (R.Refused (refusal noBatch 0))
     (cond (ltb 257 opened) (R.Refused (refusal tablesDisagree 0))
     (R.Count (opened - 1)))
 
-unfoldable pub rowsOf : List ℕ → Rows
-rowsOf b = rowsBy (getD b 0 0)
+unfoldable pub countOf : List ℕ → Rows
+countOf b = countBy (getD b 0 0)
 
 -- n of the kept updates, from i on
-unfoldable pub rowsFrom : List ℕ → ℕ → ℕ → List Row
-rowsFrom b zero i = []
-rowsFrom b (suc n) i = (getD b (1 + i) 0, getD b (257 + i) 0) ∷ rowsFrom b n (suc i)
+unfoldable pub keptFrom : List ℕ → ℕ → ℕ → List Row
+keptFrom b zero i = []
+keptFrom b (suc n) i = (getD b (1 + i) 0, getD b (257 + i) 0) ∷ keptFrom b n (suc i)
 
 -- a location that is neither 0 nor an address
 abbrev pub noAddress : Unpacked → Bool
@@ -36,11 +36,11 @@ noAddress U.NoObject = false
 noAddress (U.Refused r) = true
 
 -- an id, or a new location, out of range
-unfoldable pub outOfRange : ℕ → ℕ → ℕ → ℕ → Bool
-outOfRange ids slots i l = not (ltb 0 i && ltb i ids) || noAddress (unpacked slots l)
+unfoldable pub badKept : ℕ → ℕ → ℕ → ℕ → Bool
+badKept ids slots i l = not (ltb 0 i && ltb i ids) || noAddress (unpacked slots l)
 
-abbrev pub rowOutOfRange : ℕ → ℕ → Row → Bool
-rowOutOfRange ids slots r = outOfRange ids slots (r .0) (r .1)
+abbrev pub badKeptRow : ℕ → ℕ → Row → Bool
+badKeptRow ids slots r = badKept ids slots (r .0) (r .1)
 
 -- refusal 13 for the first row that is bad; i is the index of the first of them
 unfoldable pub firstBad : (Row → Bool) → ℕ → List Row → Verdict

@@ -3,9 +3,9 @@
 //
 //     let Rows::Count(n) = batch_kept::opened(&batch) else { .. };  // 12, none is open; 13, more than 256
 //     // the updates 0 to n - 1: ids from tables::KEPT_IDS on, new locations from tables::KEPT_LOCATIONS on
-//     batch_kept::out_of_range(ids, slots, id, location)
+//     batch_kept::bad_kept(ids, slots, id, location)
 ghost use mathlib.Core.Path.{_≡_};
-ghost use Rattle.batch_kept.specs.Kept.{rowsOf, outOfRange};
+ghost use Rattle.batch_kept.specs.Kept.{countOf, badKept};
 use address::SlabAddress;
 use address::Unpacked;
 use refusal::Refusal;
@@ -19,7 +19,7 @@ pub enum Rows {
 const MOST_OPENED: u64 = 257;
 
 pub fn opened(batch: &[u64]) -> Rows
-    ensures { λ r. ⌜ r ≡ rowsOf (now (batch .entry)) ⌝ }
+    ensures { λ r. ⌜ r ≡ countOf (now (batch .entry)) ⌝ }
 {
     let word = tables::get(batch, 0, 0);
     if word == 0 {
@@ -32,8 +32,8 @@ pub fn opened(batch: &[u64]) -> Rows
 }
 
 // Whether a kept update's id, or its new location, is out of range. Location 0 is a Free's.
-pub fn out_of_range(ids: usize, slots: usize, id: u64, location: u64) -> bool
-    ensures { λ r. ⌜ r ≡ outOfRange ids slots id location ⌝ }
+pub fn bad_kept(ids: usize, slots: usize, id: u64, location: u64) -> bool
+    ensures { λ r. ⌜ r ≡ badKept ids slots id location ⌝ }
 {
     if id < 1 {
         return true;

@@ -24,7 +24,7 @@ use Rattle.tables.proofs.Lengths.{allFit-read}
 use Rattle.tables.proofs.LawsEntries.{badIn-read}
 use Rattle.batch_kept.specs.declared.Rows.{Rows}
 use Rattle.batch_kept.specs.declared.Rows.the-variants as R
-use Rattle.batch_kept.specs.Kept.{rowsOf, rowsFrom, rowsAs, firstBad}
+use Rattle.batch_kept.specs.Kept.{countOf, keptFrom, rowsAs, firstBad}
 use Rattle.batch_kept.proofs.Laws.{badRow-read, commitRows-first, rowsAs-count, rowsAs-refused}
 use Rattle.batch_kept.proofs.Checked.{check-count, check-refused, check-kept, granted-answer, granted-after}
 use Rattle.commit.specs.Commit.{badUpdate, rowBad}
@@ -87,11 +87,11 @@ module _ (m : Memory) where
   abbrev bad : Row → Bool
   bad = rowBad (m .ids) (m .slots) (m .locations) (m .slotMarks) (m .owners) (m .tallies)
 
-  pub commit-count : fits m ≡ true → (n : ℕ) → rowsOf (m .batch) ≡ R.Count n
-      → rowsAs (firstBad bad 0 (rowsFrom (m .batch) n 0)) n ≡ rowsAs (refusal (read m) S.commit) (pred (getD (m .batch) 0 0))
+  pub commit-count : fits m ≡ true → (n : ℕ) → countOf (m .batch) ≡ R.Count n
+      → rowsAs (firstBad bad 0 (keptFrom (m .batch) n 0)) n ≡ rowsAs (refusal (read m) S.commit) (pred (getD (m .batch) 0 0))
   commit-count e n q = check-count m S.commit bad (fits-says e .batch-long) (commit-rows e) n q
 
-  pub commit-refused : fits m ≡ true → (r : Refusal) (p : ℕ) → rowsOf (m .batch) ≡ R.Refused r → R.Refused r ≡ rowsAs (refusal (read m) S.commit) p
+  pub commit-refused : fits m ≡ true → (r : Refusal) (p : ℕ) → countOf (m .batch) ≡ R.Refused r → R.Refused r ≡ rowsAs (refusal (read m) S.commit) p
   commit-refused e r p q = check-refused m S.commit bad (fits-says e .batch-long) (commit-rows e) r p q
 
   -- the check's answer, read back: it counted, or it refused
@@ -109,7 +109,7 @@ module _ (m : Memory) where
     unfolding grant
     commit-done = granted-answer m S.commit e
 
-    commit-after : (n : ℕ) → n ≡ pred (getD (m .batch) 0 0) → memoryAfter m S.commit ≡ withKept (commitAll m (rowsFrom (m .batch) n 0)) (set (m .batch) 0 0)
+    commit-after : (n : ℕ) → n ≡ pred (getD (m .batch) 0 0) → memoryAfter m S.commit ≡ withKept (commitAll m (keptFrom (m .batch) n 0)) (set (m .batch) 0 0)
     unfolding memoryEffect
     commit-after n q =
         let f = commit-fits e in
@@ -117,6 +117,6 @@ module _ (m : Memory) where
         ∙ ap (λ (rs : List Row). withKept (commitAll m rs) (set (m .batch) 0 0)) (check-kept m S.commit bad (fits-says f .batch-long) (commit-rows f) e n q)
 
     -- the rows are applied, and then the batch is closed
-    pub commit-leaves : (n : ℕ) (rows : Memory) (closed : List ℕ) → n ≡ pred (getD (m .batch) 0 0) → rows ≡ commitAll m (rowsFrom (m .batch) n 0)
+    pub commit-leaves : (n : ℕ) (rows : Memory) (closed : List ℕ) → n ≡ pred (getD (m .batch) 0 0) → rows ≡ commitAll m (keptFrom (m .batch) n 0)
         → closed ≡ set (m .batch) 0 0 → withKept rows closed ≡ memoryAfter m S.commit
     commit-leaves n rows closed q a b = (λ k. withKept (a k) (b k)) ∙ sym (commit-after n q)

@@ -8,10 +8,10 @@ use lib.ListN.{getD, set, take, drop}
 use borrow.Rule.Slice.PartMut.{putMid}
 use Rattle.id_allocator.specs.Counted.{settle}
 use Rattle.model.specs.Tables.{write}
-use Rattle.model.specs.Memory.{Memory, word, waitingWords}
+use Rattle.model.specs.Memory.{Memory, getWord, waitingWords}
 use Rattle.model.specs.MemoryAfter.{Slots, slotsOf, withSlots, withOwned, readyBy, readySlab, pendSlot, readyMarks, readyWords, pendOld, commitRow, commitAll}
-use Rattle.batch_kept.specs.Kept.{rowsFrom}
-use Rattle.batch_kept.proofs.Laws.{rowsFrom-next, rowsFrom-none, slab-part, put-slab}
+use Rattle.batch_kept.specs.Kept.{keptFrom}
+use Rattle.batch_kept.proofs.Laws.{keptFrom-next, keptFrom-none, slab-part, put-slab}
 
 -- ---- ready
 pub readyMarks-busy : (w : ℕ) (ms : List ℕ) → (w ≡ 0 → ⊥) → readyMarks w ms ≡ ms
@@ -28,11 +28,11 @@ readyBy-busy cap k s (suc w) h = refl
 
 module _ (cap k : ℕ) (s : Slots) where
   -- the slab's waiting word, where the code finds it
-  waits : getD (s .words) (316 + (k + 1)) 0 ≡ word (s .words) waitingWords (suc k)
+  waits : getD (s .words) (316 + (k + 1)) 0 ≡ getWord (s .words) waitingWords (suc k)
   waits = rw (add-one k)
 
   pub slab-busy : (getD (s .words) (316 + (k + 1)) 0 ≡ 0 → ⊥) → s ≡ readySlab cap k s
-  slab-busy h = sym (readyBy-busy cap k s (word (s .words) waitingWords (suc k)) (λ z. h (waits ∙ z)))
+  slab-busy h = sym (readyBy-busy cap k s (getWord (s .words) waitingWords (suc k)) (λ z. h (waits ∙ z)))
 
   pub slab-quiet : (p : List ℕ) → getD (s .words) (316 + (k + 1)) 0 ≡ 0 → p ≡ map settle (take (k * cap + cap - k * cap) (drop (k * cap) (s .marks)))
       → _≡_ {A = Slots} (record { marks = putMid (k * cap) (k * cap + cap - k * cap) (s .marks) p; words = set (s .words) (316 + (k + 1)) 1 }) (readySlab cap k s)
@@ -64,7 +64,7 @@ module _ (m : Memory) (b : List ℕ) (j i l o : ℕ) (ri : i ≡ getD b (1 + j) 
       (λ k. withOwned (withSlots m (es k)) (at k) (eo k)) ∙ sym (commitRow-store m i l o nz) ∙ row-read m b j i l o ri rl ro
 
   pub row-free : (idMarks ready before : List ℕ) → l ≡ 0 → locations ≡ set (m .locations) (0 + i) l
-      → idMarks ≡ set ready i 2 → ready ≡ readyMarks (word (m .tallies) waitingWords 0) (m .idMarks) → before ≡ readyWords (m .tallies) 0 (word (m .tallies) waitingWords 0)
+      → idMarks ≡ set ready i 2 → ready ≡ readyMarks (getWord (m .tallies) waitingWords 0) (m .idMarks) → before ≡ readyWords (m .tallies) 0 (getWord (m .tallies) waitingWords 0)
       → _≡_ {A = Slots} (record { marks = marks; words = words }) (pendSlot (m .slots) (record { marks = m .slotMarks; words = before }) o)
       → owners ≡ write (m .slots) o 0 (m .owners)
       → _≡_ {A = Memory} (record {
@@ -93,14 +93,14 @@ module _ (m : Memory) (b : List ℕ) (j i l o : ℕ) (ri : i ≡ getD b (1 + j) 
 
 -- ---- all rows
 module _ (m : Memory) (b : List ℕ) (n i : ℕ) where
-  commit-next : i < n → commitAll m (rowsFrom b (n - i) i)
-      ≡ commitAll (commitRow m (getD b (1 + i) 0) (getD b (257 + i) 0) (getD (m .locations) (getD b (1 + i) 0) 0)) (rowsFrom b (n - (i + 1)) (i + 1))
-  commit-next h = ap (commitAll m) (rowsFrom-next b n i h)
+  commit-next : i < n → commitAll m (keptFrom b (n - i) i)
+      ≡ commitAll (commitRow m (getD b (1 + i) 0) (getD b (257 + i) 0) (getD (m .locations) (getD b (1 + i) 0) 0)) (keptFrom b (n - (i + 1)) (i + 1))
+  commit-next h = ap (commitAll m) (keptFrom-next b n i h)
 
   -- the rows left, after the row at i, make what the rows from i on make
   pub commit-turn : (x whole : Memory) → i < n → x ≡ commitRow m (getD b (1 + i) 0) (getD b (257 + i) 0) (getD (m .locations) (getD b (1 + i) 0) 0)
-      → commitAll m (rowsFrom b (n - i) i) ≡ whole → commitAll x (rowsFrom b (n - (i + 1)) (i + 1)) ≡ whole
-  commit-turn x whole h e all = ap (λ (y : Memory). commitAll y (rowsFrom b (n - (i + 1)) (i + 1))) e ∙ sym (commit-next h) ∙ all
+      → commitAll m (keptFrom b (n - i) i) ≡ whole → commitAll x (keptFrom b (n - (i + 1)) (i + 1)) ≡ whole
+  commit-turn x whole h e all = ap (λ (y : Memory). commitAll y (keptFrom b (n - (i + 1)) (i + 1))) e ∙ sym (commit-next h) ∙ all
 
-  pub commit-none : n ≤ i → commitAll m (rowsFrom b (n - i) i) ≡ m
-  commit-none h = ap (commitAll m) (rowsFrom-none b n i h)
+  pub commit-none : n ≤ i → commitAll m (keptFrom b (n - i) i) ≡ m
+  commit-none h = ap (commitAll m) (keptFrom-none b n i h)

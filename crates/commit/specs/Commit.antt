@@ -6,7 +6,7 @@ use Prim.Native.Nat.{ℕ}
 use lib.ListN.{getD}
 use Rattle.model.specs.Store.{Answer, refused, done, Row}
 use Rattle.tables.specs.Entries.{badIn}
-use Rattle.batch_kept.specs.Kept.{outOfRange}
+use Rattle.batch_kept.specs.Kept.{badKept}
 use Rattle.commit.specs.declared.Committed.{Committed}
 use Rattle.commit.specs.declared.Committed.the-variants as C
 
@@ -16,7 +16,7 @@ committedAnswer (C.Refused r) = refused (r .number) (r .index)
 
 -- an update of id i to location l cannot be committed: it is out of range, or the id's present location cannot be its own
 unfoldable pub badUpdate : ℕ → ℕ → List ℕ → List ℕ → List ℕ → List ℕ → ℕ → ℕ → Bool
-badUpdate ids slots locations marks owners words i l = outOfRange ids slots i l || badIn slots marks owners words i (getD locations i 0)
+badUpdate ids slots locations marks owners words i l = badKept ids slots i l || badIn slots marks owners words i (getD locations i 0)
 
 abbrev pub rowBad : ℕ → ℕ → List ℕ → List ℕ → List ℕ → List ℕ → Row → Bool
 rowBad ids slots locations marks owners words r = badUpdate ids slots locations marks owners words (r .0) (r .1)

@@ -5,7 +5,7 @@ ghost use lib.ListN.{getD};
 ghost use Rattle.model.specs.Store.{commit};
 ghost use Rattle.model.specs.Memory.{read, memoryOf};
 ghost use Rattle.model.specs.Step.{refusal};
-ghost use Rattle.batch_kept.specs.Kept.{rowsFrom, firstBad, rowsAs};
+ghost use Rattle.batch_kept.specs.Kept.{keptFrom, firstBad, rowsAs};
 ghost use Rattle.commit.specs.Commit.{badUpdate, rowBad};
 use batch_kept::Rows;
 use refusal::Refusal;
@@ -27,7 +27,7 @@ fn bad_update(
 {
     let ids = caps.ids;
     let slots = caps.slots;
-    if batch_kept::out_of_range(ids, slots, id, location) {
+    if batch_kept::bad_kept(ids, slots, id, location) {
         return true;
     }
     let old = tables::get(locations, 0, id as usize);
@@ -44,7 +44,7 @@ fn check_rows(
     tallies: &[u64],
     n: usize,
 ) -> Rows
-    ensures { λ r. ⌜ r ≡ rowsAs (firstBad (rowBad (caps .ids) (caps .slots) (now (locations .entry)) (now («slot_marks» .entry)) (now (owners .entry)) (now (tallies .entry))) 0 (rowsFrom (now (batch .entry)) n 0)) n ⌝ }
+    ensures { λ r. ⌜ r ≡ rowsAs (firstBad (rowBad (caps .ids) (caps .slots) (now (locations .entry)) (now («slot_marks» .entry)) (now (owners .entry)) (now (tallies .entry))) 0 (keptFrom (now (batch .entry)) n 0)) n ⌝ }
 {
     let mut i: usize = 0;
     while i < n {

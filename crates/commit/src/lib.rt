@@ -17,10 +17,10 @@ ghost use lib.ListN.{length, getD};
 ghost use Rattle.address.specs.Address.{slabs, badSlots};
 ghost use Rattle.model.specs.Store.{commit};
 ghost use Rattle.model.specs.Tables.{write};
-ghost use Rattle.model.specs.Memory.{Memory, read, word, waitingWords, memoryOf};
+ghost use Rattle.model.specs.Memory.{Memory, read, getWord, waitingWords, memoryOf};
 ghost use Rattle.model.specs.MemoryAfter.{memoryAfter, Slots, readySlab, pendSlot, readyMarks, readyWords, commitRow, commitAll};
 ghost use Rattle.model.specs.Step.{answer};
-ghost use Rattle.batch_kept.specs.Kept.{rowsFrom};
+ghost use Rattle.batch_kept.specs.Kept.{keptFrom};
 ghost use Rattle.commit.specs.Commit.{committedAnswer};
 use address::SlabAddress;
 use address::Unpacked;
@@ -40,7 +40,7 @@ pub enum Committed {
 
 // Before an id becomes pending: where none waits, what counts as held is written as held, and from then on some wait.
 fn ready_ids(id_marks: &mut [u8], tallies: &mut [u64])
-    ensures { λ _. ⌜ (now («id_marks» .exit) ≡ readyMarks (word (now (tallies .entry)) waitingWords 0) (now («id_marks» .entry))) × (now (tallies .exit) ≡ readyWords (now (tallies .entry)) 0 (word (now (tallies .entry)) waitingWords 0)) ⌝ }
+    ensures { λ _. ⌜ (now («id_marks» .exit) ≡ readyMarks (getWord (now (tallies .entry)) waitingWords 0) (now («id_marks» .entry))) × (now (tallies .exit) ≡ readyWords (now (tallies .entry)) 0 (getWord (now (tallies .entry)) waitingWords 0)) ⌝ }
 {
     if tables::get(tallies, WAITING, 0) != 0 {
         return;
@@ -132,7 +132,7 @@ fn apply_rows(
     n: usize,
 )
     requires { ⌜ (badSlots (caps .slots) ≡ false) × (length (now «slot_marks») ≡ slabs * (caps .slots)) ⌝ }
-    ensures { λ _. ⌜ _≡_ {A = Memory} (memoryOf (caps .ids) (caps .slots) (now («id_marks» .exit)) (now (locations .exit)) (now («slot_marks» .exit)) (now (owners .exit)) (now (batch .entry)) (now (tallies .exit))) (commitAll (memoryOf (caps .ids) (caps .slots) (now («id_marks» .entry)) (now (locations .entry)) (now («slot_marks» .entry)) (now (owners .entry)) (now (batch .entry)) (now (tallies .entry))) (rowsFrom (now (batch .entry)) n 0)) ⌝ }
+    ensures { λ _. ⌜ _≡_ {A = Memory} (memoryOf (caps .ids) (caps .slots) (now («id_marks» .exit)) (now (locations .exit)) (now («slot_marks» .exit)) (now (owners .exit)) (now (batch .entry)) (now (tallies .exit))) (commitAll (memoryOf (caps .ids) (caps .slots) (now («id_marks» .entry)) (now (locations .entry)) (now («slot_marks» .entry)) (now (owners .entry)) (now (batch .entry)) (now (tallies .entry))) (keptFrom (now (batch .entry)) n 0)) ⌝ }
 {
     let mut i: usize = 0;
     while i < n {

@@ -19,10 +19,10 @@ use Rattle.crc_words.proofs.Bytes.{word-head}
 use Rattle.crc_steps.proofs.Agree.{shifted-xor}
 
 -- a word is read
-pub taken : (s : List ℕ) (i k w z r : ℕ) → Turn k w z r → i + 8 ≤ length s → k ≤ 8 * (length s - (i + 8)) → w < 2 ^ 64
+pub word-read : (s : List ℕ) (i k w z r : ℕ) → Turn k w z r → i + 8 ≤ length s → k ≤ 8 * (length s - (i + 8)) → w < 2 ^ 64
     → word (drop i s) ≡ word (drop (i + 8) s) * 2 ^ 64 + w → left s i z ≡ left s (i + 8) r
 unfolding left Turn over
-taken s i k w z r t l m b h =
+word-read s i k w z r t l m b h =
     let n = 8 * (length s - (i + 8)) - k in
     let q = word (drop (i + 8) s) in
     let e : 8 * (length s - i) ≡ 64 + (k + n) = omega arith in
@@ -103,7 +103,7 @@ small a b c d e l h =
 pub ended : (s : List ℕ) (i w z a b c d e : ℕ) → Turn 0 w z (num a b c d e) → i + 8 ≡ length s → w < 2 ^ 64 → word (drop i s) ≡ word (drop (i + 8) s) * 2 ^ 64 + w
     → a < 2 ^ 64 → left s i z < 2 ^ 32 → left s i z ≡ a
 ended s i w z a b c d e t l m f h k =
-    let r : left s i z ≡ num a b c d e = taken s i 0 w z (num a b c d e) t (omega arith) (omega arith) m f ∙ done s (i + 8) (num a b c d e) l in
+    let r : left s i z ≡ num a b c d e = word-read s i 0 w z (num a b c d e) t (omega arith) (omega arith) m f ∙ done s (i + 8) (num a b c d e) l in
     r ∙ small a b c d e h (omega arith)
 
 -- no bytes, and fewer than a word has
@@ -139,4 +139,4 @@ pub onward : (s : List ℕ) (m k w z r c : ℕ) → Turn k w z r → m + 8 ≤ l
     → left s (length s - (m + 8)) z ≡ c → left s (length s - m) r ≡ c
 onward s m k w z r c t l n b h e =
     let i = length s - (m + 8) in
-    left-at s r (length s - m) (i + 8) (omega arith) ∙ sym (taken s i k w z r t (omega arith) (omega arith) b h) ∙ e
+    left-at s r (length s - m) (i + 8) (omega arith) ∙ sym (word-read s i k w z r t (omega arith) (omega arith) b h) ∙ e

@@ -17,10 +17,10 @@ use Rattle.fragmentation.specs.Cutoff.{cutoff}
 use Rattle.model.specs.Store.{Store, Row}
 use Rattle.model.specs.Tables.{part, slabTip, live}
 use Rattle.model.specs.Defrag.{consIf, movable, movesIn, slabMoves, movesFrom, allMoves}
-use Rattle.model.specs.Memory.{Memory, read, word, hintWords, waitingWords, usedWords}
+use Rattle.model.specs.Memory.{Memory, read, getWord, hintWords, waitingWords, usedWords}
 use Rattle.model.proofs.Slabs.{part-countedSlabs}
 use Rattle.model.proofs.Tables.{part-at}
-use Rattle.defrag.specs.Listed.{rowOf, rowsOf, marksOf, tipIn, spanOf, slabRows, rowsFrom}
+use Rattle.defrag.specs.Listed.{rowOf, listedOf, marksOf, tipIn, spanOf, slabRows, listedFrom}
 use Rattle.defrag.proofs.Spans.{span-in, inside}
 
 -- ---- of a slab
@@ -30,11 +30,11 @@ consIf-append true r rs = refl
 consIf-append false r rs = refl
 
 moves-are : (s : Store) → length (s .locations) ≡ s .ids → (k j n : ℕ) → k * s .slots + j + n ≤ length (s .owners)
-    → rowsOf (s .locations) (packing k j) (take n (drop (k * s .slots + j) (s .owners))) ≡ movesIn s k j n
-unfolding rowsOf rowOf
+    → listedOf (s .locations) (packing k j) (take n (drop (k * s .slots + j) (s .owners))) ≡ movesIn s k j n
+unfolding listedOf rowOf
 moves-are s len k j zero h = refl
 moves-are s len k j (suc n) h =
-    ap (λ os. rowsOf (s .locations) (packing k j) (take (suc n) os)) (drop-cons (s .owners) (k * s .slots + j) 0 (omega arith))
+    ap (λ os. listedOf (s .locations) (packing k j) (take (suc n) os)) (drop-cons (s .owners) (k * s .slots + j) 0 (omega arith))
     ∙ ap (λ rs. rowOf (s .locations) (packing k j) o ++ rs) (rw (up, at) (moves-are s len k (suc j) n (omega arith)))
     ∙ one
   where
@@ -53,7 +53,7 @@ moves-are s len k j (suc n) h =
 
 module _ (m : Memory) (r : Float) (low : 1 ≤ m .slots) (locations : length (m .locations) ≡ m .ids)
     (marks : length (m .slotMarks) ≡ 78 * m .slots) (owners : length (m .owners) ≡ 78 * m .slots) where
-  slab-part : (k : ℕ) → k < 78 → part (m .slots) (read m .slotMarks) k ≡ counted (word (m .tallies) hintWords (suc k)) (word (m .tallies) waitingWords (suc k)) (part (m .slots) (m .slotMarks) k)
+  slab-part : (k : ℕ) → k < 78 → part (m .slots) (read m .slotMarks) k ≡ counted (getWord (m .tallies) hintWords (suc k)) (getWord (m .tallies) waitingWords (suc k)) (part (m .slots) (m .slotMarks) k)
   unfolding read
   slab-part k h =
       let z : 0 + k ≡ k = omega arith in
@@ -62,13 +62,13 @@ module _ (m : Memory) (r : Float) (low : 1 ≤ m .slots) (locations : length (m 
   tip-is : (k : ℕ) → k < 78 → tipIn (m .slots) (m .slotMarks) (m .tallies) k ≡ slabTip (read m) k
   unfolding read
   tip-is k h =
-      sym (counted-tip (word (m .tallies) hintWords (suc k)) (word (m .tallies) waitingWords (suc k)) (part (m .slots) (m .slotMarks) k) (word (m .tallies) usedWords (suc k)))
+      sym (counted-tip (getWord (m .tallies) hintWords (suc k)) (getWord (m .tallies) waitingWords (suc k)) (part (m .slots) (m .slotMarks) k) (getWord (m .tallies) usedWords (suc k)))
       ∙ sym (λ i. tip (slab-part k h i) (part-at 79 (m .tallies) 2 (suc k) (omega arith) i))
 
   live-is : (k : ℕ) → k < 78 → countIf isTaken (marksOf (m .slots) (m .slotMarks) (m .tallies) k) ≡ live (read m) k
   unfolding read
   live-is k h =
-      sym (counted-live (word (m .tallies) hintWords (suc k)) (word (m .tallies) waitingWords (suc k)) (part (m .slots) (m .slotMarks) k))
+      sym (counted-live (getWord (m .tallies) hintWords (suc k)) (getWord (m .tallies) waitingWords (suc k)) (part (m .slots) (m .slotMarks) k))
       ∙ ap (countIf isTaken) (sym (slab-part k h))
 
   slab-moves : (k : ℕ) → k < 78 → slabRows (m .slots) (m .locations) (m .slotMarks) (m .owners) (m .tallies) r k ≡ slabMoves (read m) r k (slabTip (read m) k)
@@ -80,12 +80,12 @@ module _ (m : Memory) (r : Float) (low : 1 ≤ m .slots) (locations : length (m 
       moves-are (read m) locations k f (t - f) (omega (arith, inside (m .slots) k h))
       ∙ (λ i. movesIn (read m) k (cutoff (live-is k h i) (tip-is k h i) r) (tip-is k h i - cutoff (live-is k h i) (tip-is k h i) r))
 
-  rows-from : (n k : ℕ) → k + n ≤ 78 → rowsFrom (m .slots) (m .locations) (m .slotMarks) (m .owners) (m .tallies) r n k ≡ movesFrom (read m) r n k
-  unfolding rowsFrom movesFrom
+  rows-from : (n k : ℕ) → k + n ≤ 78 → listedFrom (m .slots) (m .locations) (m .slotMarks) (m .owners) (m .tallies) r n k ≡ movesFrom (read m) r n k
+  unfolding listedFrom movesFrom
   rows-from zero k h = refl
   rows-from (suc n) k h =
       let e : k + 1 ≡ suc k = omega arith in
-      λ i. slab-moves k (omega arith) i ++ (ap (rowsFrom (m .slots) (m .locations) (m .slotMarks) (m .owners) (m .tallies) r n) e ∙ rows-from n (suc k) (omega arith)) i
+      λ i. slab-moves k (omega arith) i ++ (ap (listedFrom (m .slots) (m .locations) (m .slotMarks) (m .owners) (m .tallies) r n) e ∙ rows-from n (suc k) (omega arith)) i
 
-  pub rows-are : rowsFrom (m .slots) (m .locations) (m .slotMarks) (m .owners) (m .tallies) r 78 0 ≡ allMoves (read m) r
+  pub rows-are : listedFrom (m .slots) (m .locations) (m .slotMarks) (m .owners) (m .tallies) r 78 0 ≡ allMoves (read m) r
   rows-are = rows-from 78 0 (omega arith)

@@ -22,10 +22,10 @@ use Rattle.fragmentation.specs.Answer.{cutoffOf}
 use Rattle.fragmentation.specs.declared.Cutoff.the-variants as C
 use Rattle.fragmentation.proofs.LawsCutoff.{cutoff-le}
 use Rattle.model.specs.Tables.{part}
-use Rattle.model.specs.Memory.{word, hintWords, usedWords}
-use Rattle.defrag.specs.Listed.{startOf, locationIn, marksOf, tipIn, spanOf, rowsOf, rowsIn, slabRows, rowsFrom}
+use Rattle.model.specs.Memory.{getWord, hintWords, usedWords}
+use Rattle.defrag.specs.Listed.{startOf, locationIn, marksOf, tipIn, spanOf, listedOf, rowsIn, slabRows, listedFrom}
 use Rattle.defrag.specs.declared.slabs.Span.{Span}
-use Rattle.defrag.proofs.Written.{rowsOf-le}
+use Rattle.defrag.proofs.Written.{listedOf-le}
 
 -- ---- a slab's part
 
@@ -47,7 +47,7 @@ pub marks-are : (slots : ℕ) (marks words : List ℕ) (k hint : ℕ) → hint �
     → hinted hint (take (k * slots + slots - k * slots) (drop (k * slots) marks)) ≡ marksOf slots marks words k
 marks-are slots marks words k hint e = λ i. hinted ((e ∙ ap (λ n. getD words (237 + n) 0) (add-one k)) i) (part-is slots marks k i)
 
-pub used-is : (words : List ℕ) (k used : ℕ) → used ≡ getD words (158 + (k + 1)) 0 → used ≡ word words usedWords (suc k)
+pub used-is : (words : List ℕ) (k used : ℕ) → used ≡ getD words (158 + (k + 1)) 0 → used ≡ getWord words usedWords (suc k)
 used-is words k used e = e ∙ ap (λ n. getD words (158 + n) 0) (add-one k)
 
 -- ---- the cutoff
@@ -65,8 +65,8 @@ start-is live tip r a b q = simp (le-ltb 65536 tip b, le-ltb tip live a, q) (go 
 module _ (slots : ℕ) (marks words : List ℕ) (k : ℕ) (low : 1 ≤ slots) (h : k < 78) (l : length marks ≡ 78 * slots) where
   pub tipIn-le : tipIn slots marks words k ≤ slots
   tipIn-le =
-      let e : length (marksOf slots marks words k) ≡ slots = hinted-length (word words hintWords (suc k)) (part slots marks k) ∙ length-part-is slots marks k h l in
-      rw e at (tip-le (marksOf slots marks words k) (word words usedWords (suc k)) (rw e low))
+      let e : length (marksOf slots marks words k) ≡ slots = hinted-length (getWord words hintWords (suc k)) (part slots marks k) ∙ length-part-is slots marks k h l in
+      rw e at (tip-le (marksOf slots marks words k) (getWord words usedWords (suc k)) (rw e low))
 
   pub span-in : (r : Float) → (spanOf slots marks words r k .from ≤ spanOf slots marks words r k .tip) × (spanOf slots marks words r k .tip ≤ slots)
   unfolding spanOf
@@ -93,12 +93,12 @@ module _ (slots : ℕ) (ls marks os words : List ℕ) (r : Float) (k : ℕ) (low
   span-le = rw e (span-in slots marks words k low h l r)
 
   pub slab-is : (first : ℕ) → first ≡ packing k 0 + s .from
-      → rowsOf ls first (take (k * slots + s .tip - (k * slots + s .from)) (drop (k * slots + s .from) os)) ≡ slabRows slots ls marks os words r k
+      → listedOf ls first (take (k * slots + s .tip - (k * slots + s .from)) (drop (k * slots + s .from) os)) ≡ slabRows slots ls marks os words r k
   unfolding slabRows
   slab-is first f =
       let d : k * slots + s .tip - (k * slots + s .from) ≡ s .tip - s .from = omega arith in
       let g : first ≡ packing k (s .from) = omega arith in
-      (λ i. rowsOf ls (g i) (take (d i) (drop (k * slots + s .from) os))) ∙ ap (rowsIn slots ls os k) e
+      (λ i. listedOf ls (g i) (take (d i) (drop (k * slots + s .from) os))) ∙ ap (rowsIn slots ls os k) e
 
 -- what keeps sums and parts in range
 pub record Near (slots k : ℕ) (s : Span) : Type 0 where
@@ -121,12 +121,12 @@ module _ (slots : ℕ) (ls marks os words : List ℕ) (r : Float) where
   slabRows-le k low c h l =
       let s = spanOf slots marks words r k in
       let b = span-in slots marks words k low h l r in
-      omega (arith, b .1, rowsOf-le ls (packing k (s .from)) (take (s .tip - s .from) (drop (k * slots + s .from) os)), length-take (s .tip - s .from) (drop (k * slots + s .from) os))
+      omega (arith, b .1, listedOf-le ls (packing k (s .from)) (take (s .tip - s .from) (drop (k * slots + s .from) os)), length-take (s .tip - s .from) (drop (k * slots + s .from) os))
 
-  pub rowsFrom-turn : (k : ℕ) → k < 78 → rowsFrom slots ls marks os words r (78 - k) k ≡ slabRows slots ls marks os words r k ++ rowsFrom slots ls marks os words r (78 - (k + 1)) (k + 1)
-  unfolding rowsFrom
-  rowsFrom-turn k h = let e : 78 - k ≡ suc (78 - (k + 1)) = omega arith in ap (λ n. rowsFrom slots ls marks os words r n k) e
+  pub listedFrom-turn : (k : ℕ) → k < 78 → listedFrom slots ls marks os words r (78 - k) k ≡ slabRows slots ls marks os words r k ++ listedFrom slots ls marks os words r (78 - (k + 1)) (k + 1)
+  unfolding listedFrom
+  listedFrom-turn k h = let e : 78 - k ≡ suc (78 - (k + 1)) = omega arith in ap (λ n. listedFrom slots ls marks os words r n k) e
 
-  pub rowsFrom-end : (k : ℕ) → 78 ≤ k → rowsFrom slots ls marks os words r (78 - k) k ≡ []
-  unfolding rowsFrom
-  rowsFrom-end k h = let e : 78 - k ≡ 0 = omega arith in ap (λ n. rowsFrom slots ls marks os words r n k) e
+  pub listedFrom-end : (k : ℕ) → 78 ≤ k → listedFrom slots ls marks os words r (78 - k) k ≡ []
+  unfolding listedFrom
+  listedFrom-end k h = let e : 78 - k ≡ 0 = omega arith in ap (λ n. listedFrom slots ls marks os words r n k) e

@@ -10,18 +10,18 @@ use lib.Seq.{sets, drop-cons}
 use Rattle.model.specs.Store.{Row}
 use Rattle.model.specs.Tables.{idsOf, locationsOf}
 use Rattle.model.specs.Defrag.{consIf}
-use Rattle.defrag.specs.Listed.{movableAt, rowOf, rowsOf}
+use Rattle.defrag.specs.Listed.{movableAt, rowOf, listedOf}
 
--- ---- rowsOf
+-- ---- listedOf
 
-pub rowsOf-turn : (locations : List ℕ) (l : ℕ) (os : List ℕ) (i : ℕ) → i < length os
-    → rowsOf locations l (drop i os) ≡ rowOf locations l (getD os i 0) ++ rowsOf locations (l + 1) (drop (i + 1) os)
-unfolding rowsOf
-rowsOf-turn locations l os i h = ap (rowsOf locations l) (drop-cons os i 0 h) ∙ ap (λ k. rowOf locations l (getD os i 0) ++ rowsOf locations (l + 1) (drop k os)) (sym (add-one i))
+pub listedOf-turn : (locations : List ℕ) (l : ℕ) (os : List ℕ) (i : ℕ) → i < length os
+    → listedOf locations l (drop i os) ≡ rowOf locations l (getD os i 0) ++ listedOf locations (l + 1) (drop (i + 1) os)
+unfolding listedOf
+listedOf-turn locations l os i h = ap (listedOf locations l) (drop-cons os i 0 h) ∙ ap (λ k. rowOf locations l (getD os i 0) ++ listedOf locations (l + 1) (drop k os)) (sym (add-one i))
 
-pub rowsOf-end : (locations : List ℕ) (l : ℕ) (os : List ℕ) (i : ℕ) → length os ≤ i → rowsOf locations l (drop i os) ≡ []
-unfolding rowsOf
-rowsOf-end locations l os i h = ap (rowsOf locations l) (drop-of-length-le os h)
+pub listedOf-end : (locations : List ℕ) (l : ℕ) (os : List ℕ) (i : ℕ) → length os ≤ i → listedOf locations l (drop i os) ≡ []
+unfolding listedOf
+listedOf-end locations l os i h = ap (listedOf locations l) (drop-of-length-le os h)
 
 pub rowOf-le : (locations : List ℕ) (l o : ℕ) → length (rowOf locations l o) ≤ 1
 unfolding rowOf
@@ -31,11 +31,11 @@ rowOf-le locations l o = go (movableAt locations o l)
     go true = omega arith
     go false = omega arith
 
-pub rowsOf-le : (locations : List ℕ) (l : ℕ) (os : List ℕ) → length (rowsOf locations l os) ≤ length os
-unfolding rowsOf
-rowsOf-le locations l [] = omega arith
-rowsOf-le locations l (o ∷ os) =
-    omega (arith, length-append (rowOf locations l o) (rowsOf locations (l + 1) os), rowOf-le locations l o, rowsOf-le locations (l + 1) os)
+pub listedOf-le : (locations : List ℕ) (l : ℕ) (os : List ℕ) → length (listedOf locations l os) ≤ length os
+unfolding listedOf
+listedOf-le locations l [] = omega arith
+listedOf-le locations l (o ∷ os) =
+    omega (arith, length-append (rowOf locations l o) (listedOf locations (l + 1) os), rowOf-le locations l o, listedOf-le locations (l + 1) os)
 
 pub rowOf-none : (locations : List ℕ) (l o : ℕ) → movableAt locations o l ≡ false → rowOf locations l o ≡ []
 unfolding rowOf

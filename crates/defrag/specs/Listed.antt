@@ -16,7 +16,7 @@ use Rattle.fragmentation.specs.declared.Cutoff.the-variants as C
 use Rattle.model.specs.Store.{Row}
 use Rattle.model.specs.Tables.{part}
 use Rattle.model.specs.Defrag.{consIf}
-use Rattle.model.specs.Memory.{word, usedWords, hintWords}
+use Rattle.model.specs.Memory.{getWord, usedWords, hintWords}
 use Rattle.defrag.specs.declared.slabs.Span.{Span}
 
 -- ---- slots
@@ -28,9 +28,9 @@ unfoldable pub rowOf : List ℕ → ℕ → ℕ → List Row
 rowOf locations l o = consIf (movableAt locations o l) (o, l) []
 
 -- of slots with these owners, of which the first has the location l
-unfoldable pub rowsOf : List ℕ → ℕ → List ℕ → List Row
-rowsOf locations l [] = []
-rowsOf locations l (o ∷ os) = rowOf locations l o ++ rowsOf locations (l + 1) os
+unfoldable pub listedOf : List ℕ → ℕ → List ℕ → List Row
+listedOf locations l [] = []
+listedOf locations l (o ∷ os) = rowOf locations l o ++ listedOf locations (l + 1) os
 
 -- ---- slabs
 
@@ -45,10 +45,10 @@ locationIn (P.Refused r) = 0
 
 -- a slab's marks as they count, but that pending ones are not told from held ones
 abbrev pub marksOf : ℕ → List ℕ → List ℕ → ℕ → List ℕ
-marksOf slots marks words k = hinted (word words hintWords (suc k)) (part slots marks k)
+marksOf slots marks words k = hinted (getWord words hintWords (suc k)) (part slots marks k)
 
 abbrev pub tipIn : ℕ → List ℕ → List ℕ → ℕ → ℕ
-tipIn slots marks words k = tip (marksOf slots marks words k) (word words usedWords (suc k))
+tipIn slots marks words k = tip (marksOf slots marks words k) (getWord words usedWords (suc k))
 
 unfoldable pub spanOf : ℕ → List ℕ → List ℕ → Float → ℕ → Span
 spanOf slots marks words r k = record {
@@ -57,13 +57,13 @@ spanOf slots marks words r k = record {
 }
 
 abbrev pub rowsIn : ℕ → List ℕ → List ℕ → ℕ → Span → List Row
-rowsIn slots locations owners k s = rowsOf locations (packing k (s .from)) (take (s .tip - s .from) (drop (k * slots + s .from) owners))
+rowsIn slots locations owners k s = listedOf locations (packing k (s .from)) (take (s .tip - s .from) (drop (k * slots + s .from) owners))
 
 unfoldable pub slabRows : ℕ → List ℕ → List ℕ → List ℕ → List ℕ → Float → ℕ → List Row
 slabRows slots locations marks owners words r k = rowsIn slots locations owners k (spanOf slots marks words r k)
 
 -- of n slabs from k on
-unfoldable pub rowsFrom : ℕ → List ℕ → List ℕ → List ℕ → List ℕ → Float → ℕ → ℕ → List Row
-rowsFrom slots locations marks owners words r zero k = []
-rowsFrom slots locations marks owners words r (suc n) k =
-    slabRows slots locations marks owners words r k ++ rowsFrom slots locations marks owners words r n (k + 1)
+unfoldable pub listedFrom : ℕ → List ℕ → List ℕ → List ℕ → List ℕ → Float → ℕ → ℕ → List Row
+listedFrom slots locations marks owners words r zero k = []
+listedFrom slots locations marks owners words r (suc n) k =
+    slabRows slots locations marks owners words r k ++ listedFrom slots locations marks owners words r n (k + 1)

@@ -5,7 +5,7 @@ ghost use Prim.Native.Nat.{_+_, _<_, _^_};
 ghost use lib.ListN.{length};
 ghost use lib.Seq.{sets};
 ghost use Rattle.model.specs.Tables.{idsOf, locationsOf};
-ghost use Rattle.defrag.specs.Listed.{movableAt, rowOf, rowsOf};
+ghost use Rattle.defrag.specs.Listed.{movableAt, rowOf, listedOf};
 
 // Whether an owner is an id in range that has this location.
 fn movable(locations: &[u64], owner: u64, location: u64) -> bool
@@ -53,9 +53,9 @@ pub(crate) fn add_rows(
     from: usize,
 ) -> usize
     requires { ⌜ (first + length (now owners) < 2 ^ 64) × (from + length (now owners) < 2 ^ 64) ⌝ }
-    ensures { λ r. ⌜ (r ≡ from + length (rowsOf (now (locations .entry)) first (now (owners .entry))))
-        × (now («moved_ids» .exit) ≡ sets (now («moved_ids» .entry)) from (idsOf (rowsOf (now (locations .entry)) first (now (owners .entry)))))
-        × (now («moved_locations» .exit) ≡ sets (now («moved_locations» .entry)) from (locationsOf (rowsOf (now (locations .entry)) first (now (owners .entry))))) ⌝ }
+    ensures { λ r. ⌜ (r ≡ from + length (listedOf (now (locations .entry)) first (now (owners .entry))))
+        × (now («moved_ids» .exit) ≡ sets (now («moved_ids» .entry)) from (idsOf (listedOf (now (locations .entry)) first (now (owners .entry)))))
+        × (now («moved_locations» .exit) ≡ sets (now («moved_locations» .entry)) from (locationsOf (listedOf (now (locations .entry)) first (now (owners .entry))))) ⌝ }
 {
     let mut n = from;
     let mut location = first;

@@ -6,7 +6,7 @@ ghost use lib.ListN.{length};
 ghost use lib.Seq.{sets};
 ghost use Rattle.fragmentation.specs.Cutoff.{isRatio};
 ghost use Rattle.model.specs.Tables.{idsOf, locationsOf};
-ghost use Rattle.defrag.specs.Listed.{startOf, locationIn, spanOf, slabRows, rowsFrom};
+ghost use Rattle.defrag.specs.Listed.{startOf, locationIn, spanOf, slabRows, listedFrom};
 use crate::rows::add_rows;
 use address::Packed;
 use address::SlabAddress;
@@ -96,9 +96,9 @@ pub(crate) fn list_all(
     moved_locations: &mut [u64],
 ) -> usize
     requires { ⌜ (1 ≤ slots) × (slots ≤ 65536) × (length (now «slot_marks») ≡ 78 * slots) × (length (now owners) ≡ 78 * slots) × (isRatio r ≡ true) ⌝ }
-    ensures { λ m. ⌜ (m ≡ length (rowsFrom slots (now (locations .entry)) (now («slot_marks» .entry)) (now (owners .entry)) (now (tallies .entry)) r 78 0))
-        × (now («moved_ids» .exit) ≡ sets (now («moved_ids» .entry)) 0 (idsOf (rowsFrom slots (now (locations .entry)) (now («slot_marks» .entry)) (now (owners .entry)) (now (tallies .entry)) r 78 0)))
-        × (now («moved_locations» .exit) ≡ sets (now («moved_locations» .entry)) 0 (locationsOf (rowsFrom slots (now (locations .entry)) (now («slot_marks» .entry)) (now (owners .entry)) (now (tallies .entry)) r 78 0))) ⌝ }
+    ensures { λ m. ⌜ (m ≡ length (listedFrom slots (now (locations .entry)) (now («slot_marks» .entry)) (now (owners .entry)) (now (tallies .entry)) r 78 0))
+        × (now («moved_ids» .exit) ≡ sets (now («moved_ids» .entry)) 0 (idsOf (listedFrom slots (now (locations .entry)) (now («slot_marks» .entry)) (now (owners .entry)) (now (tallies .entry)) r 78 0)))
+        × (now («moved_locations» .exit) ≡ sets (now («moved_locations» .entry)) 0 (locationsOf (listedFrom slots (now (locations .entry)) (now («slot_marks» .entry)) (now (owners .entry)) (now (tallies .entry)) r 78 0))) ⌝ }
 {
     let mut n: usize = 0;
     let mut slab: usize = 0;

@@ -4,7 +4,7 @@
 // lent slice of exactly as many words, which is as it was on a refusal; a slice of another length is refused with 1, index 0.
 mod batches;
 mod leaves;
-mod night;
+mod moves_and_cuts;
 mod objects;
 mod status;
 mod stores;
@@ -25,9 +25,9 @@ pub use leaves::wentuhoro_frame_read;
 pub use leaves::wentuhoro_frame_write;
 pub use leaves::wentuhoro_pack;
 pub use leaves::wentuhoro_unpack;
-pub use night::wentuhoro_cut_done;
-pub use night::wentuhoro_defrag;
-pub use night::wentuhoro_truncation;
+pub use moves_and_cuts::wentuhoro_cut_done;
+pub use moves_and_cuts::wentuhoro_defrag;
+pub use moves_and_cuts::wentuhoro_truncation;
 pub use objects::wentuhoro_counters;
 pub use objects::wentuhoro_lookup;
 pub use objects::wentuhoro_new_id;

@@ -13,25 +13,25 @@ use Rattle.refusal.specs.Refusals.{refusal, wrongShape, checkDiffers, tooLong}
 use Rattle.little_endian.specs.LittleEndian.{word, bytesOf, getAt, putAt}
 use Rattle.little_endian.proofs.Laws.{Bytes, append-bytes, zero-bytes, bytesOf-bytes, bytesOf-zero, length-bytesOf, word-bytesOf, putAt-next}
 use Rattle.list_parts.proofs.Parts.{length-part, drop-part}
-use Rattle.sizes.specs.Sizes.{isSlabSize, fieldWidth, checkWidth, room}
-use Rattle.sizes.proofs.Laws.{fieldWidth-le, isSlabSize-most, room-frame, room-lt}
+use Rattle.sizes.specs.Sizes.{isSlabSize, fieldWidth, checkWidth, longestObject}
+use Rattle.sizes.proofs.Laws.{fieldWidth-le, isSlabSize-most, longestObject-frame, longestObject-lt}
 use Rattle.seal.specs.Seal.{checkOf, signed, isSigned, resigned}
 use Rattle.seal.proofs.Laws.{length-signed, isSigned-signed, resigned-body}
-use Rattle.frame.specs.Frame.{body, framed, storedLength, verdictOf, part}
+use Rattle.frame.specs.Frame.{body, framed, storedLength, verdictOf, objectPart}
 use Rattle.frame.specs.declared.Verdict.{Verdict}
 use Rattle.frame.specs.declared.Verdict.the-variants as R
 
 -- ---- body: the object, the gap, the length
 abbrev gap : ℕ → List ℕ → List ℕ
-gap s object = replicate (room s - length object) 0
+gap s object = replicate (longestObject s - length object) 0
 
-pub length-body : (s : ℕ) (object : List ℕ) → length object ≤ room s → length (body s object) ≡ room s + fieldWidth s
+pub length-body : (s : ℕ) (object : List ℕ) → length object ≤ longestObject s → length (body s object) ≡ longestObject s + fieldWidth s
 unfolding body
 length-body s object h =
     rw (
       length-append object (gap s object ++ bytesOf (fieldWidth s) (length object)),
       length-append (gap s object) (bytesOf (fieldWidth s) (length object)),
-      length-replicate {A = ℕ} (room s - length object) 0,
+      length-replicate {A = ℕ} (longestObject s - length object) 0,
       length-bytesOf (fieldWidth s) (length object),
     ) (omega arith)
 
@@ -39,54 +39,54 @@ pub body-bytes : (s : ℕ) (object : List ℕ) → Bytes object → Bytes (body 
 unfolding body
 body-bytes s object h =
     append-bytes object (gap s object ++ bytesOf (fieldWidth s) (length object)) h
-    (append-bytes (gap s object) (bytesOf (fieldWidth s) (length object)) (zero-bytes (room s - length object)) (bytesOf-bytes (fieldWidth s) (length object)))
+    (append-bytes (gap s object) (bytesOf (fieldWidth s) (length object)) (zero-bytes (longestObject s - length object)) (bytesOf-bytes (fieldWidth s) (length object)))
 
 -- ---- framed
-pub length-framed : (s : ℕ) (object : List ℕ) → isSlabSize s ≡ true → length object ≤ room s → length (framed s object) ≡ s
+pub length-framed : (s : ℕ) (object : List ℕ) → isSlabSize s ≡ true → length object ≤ longestObject s → length (framed s object) ≡ s
 unfolding framed
-length-framed s object k h = length-signed (body s object) ∙ ap (λ (n : ℕ). n + checkWidth) (length-body s object h) ∙ room-frame s k
+length-framed s object k h = length-signed (body s object) ∙ ap (λ (n : ℕ). n + checkWidth) (length-body s object h) ∙ longestObject-frame s k
 
 -- ---- writing
-pub laid : (slot object : List ℕ) → isSlabSize (length slot) ≡ true → length object ≤ room (length slot)
-    → resigned (putAt (room (length slot)) (length slot - checkWidth) (length object) (putAt (length object) (room (length slot)) 0 (object ++ drop (length object) slot)))
+pub laid : (slot object : List ℕ) → isSlabSize (length slot) ≡ true → length object ≤ longestObject (length slot)
+    → resigned (putAt (longestObject (length slot)) (length slot - checkWidth) (length object) (putAt (length object) (longestObject (length slot)) 0 (object ++ drop (length object) slot)))
     ≡ framed (length slot) object
 unfolding framed body
 laid slot object k h =
     let s = length slot in
     let n = length object in
-    let f = room-frame s k in
+    let f = longestObject-frame s k in
     let end : ℕ = s - checkWidth in
-    let m₁ = take (room s - n) (drop n slot) in
-    let m₂ = take (end - room s) (drop (room s) slot) in
-    let l₁ : length m₁ ≡ room s - n = length-part slot n (room s) h (omega arith) in
-    let l₂ : length m₂ ≡ end - room s = length-part slot (room s) end (omega arith) (omega arith) in
+    let m₁ = take (longestObject s - n) (drop n slot) in
+    let m₂ = take (end - longestObject s) (drop (longestObject s) slot) in
+    let l₁ : length m₁ ≡ longestObject s - n = length-part slot n (longestObject s) h (omega arith) in
+    let l₂ : length m₂ ≡ end - longestObject s = length-part slot (longestObject s) end (omega arith) (omega arith) in
     let l₃ : length (drop end slot) ≡ checkWidth = length-drop end slot ∙ omega arith in
-    let w : end - room s ≡ fieldWidth s = omega arith in
-    let z = bytesOf (room s - n) 0 in
+    let w : end - longestObject s ≡ fieldWidth s = omega arith in
+    let z = bytesOf (longestObject s - n) 0 in
     let split : drop n slot ≡ m₁ ++ (m₂ ++ drop end slot) =
-    drop-part slot n (room s) h ∙ ap (λ (x : List ℕ). m₁ ++ x) (drop-part slot (room s) end (omega arith)) in
-    let l : length (object ++ z) ≡ room s = length-append object z ∙ omega (arith, length-bytesOf (room s - n) 0) in
-    let cleared : putAt n (room s) 0 (object ++ drop n slot) ≡ (object ++ z) ++ (m₂ ++ drop end slot) =
-    ap (λ (x : List ℕ). putAt n (room s) 0 (object ++ x)) split
-    ∙ putAt-next object m₁ (m₂ ++ drop end slot) n (room s) refl (omega arith) 0 (room s - n) l₁ in
-    ap (λ (x : List ℕ). resigned (putAt (room s) end n x)) cleared
-    ∙ ap resigned (putAt-next (object ++ z) m₂ (drop end slot) (room s) end l (omega arith) n (fieldWidth s) (l₂ ∙ w))
+    drop-part slot n (longestObject s) h ∙ ap (λ (x : List ℕ). m₁ ++ x) (drop-part slot (longestObject s) end (omega arith)) in
+    let l : length (object ++ z) ≡ longestObject s = length-append object z ∙ omega (arith, length-bytesOf (longestObject s - n) 0) in
+    let cleared : putAt n (longestObject s) 0 (object ++ drop n slot) ≡ (object ++ z) ++ (m₂ ++ drop end slot) =
+    ap (λ (x : List ℕ). putAt n (longestObject s) 0 (object ++ x)) split
+    ∙ putAt-next object m₁ (m₂ ++ drop end slot) n (longestObject s) refl (omega arith) 0 (longestObject s - n) l₁ in
+    ap (λ (x : List ℕ). resigned (putAt (longestObject s) end n x)) cleared
+    ∙ ap resigned (putAt-next (object ++ z) m₂ (drop end slot) (longestObject s) end l (omega arith) n (fieldWidth s) (l₂ ∙ w))
     ∙ resigned-body ((object ++ z) ++ bytesOf (fieldWidth s) n) (drop end slot) l₃
-    ∙ ap signed (append-assoc object z (bytesOf (fieldWidth s) n) ∙ ap (λ (x : List ℕ). object ++ (x ++ bytesOf (fieldWidth s) n)) (bytesOf-zero (room s - n)))
+    ∙ ap signed (append-assoc object z (bytesOf (fieldWidth s) n) ∙ ap (λ (x : List ℕ). object ++ (x ++ bytesOf (fieldWidth s) n)) (bytesOf-zero (longestObject s - n)))
 
 -- ---- reading
--- the length field is the part between the room and the check
-storedLength-field : (slot : List ℕ) → isSlabSize (length slot) ≡ true → getAt (room (length slot)) (length slot - checkWidth) slot ≡ storedLength slot
+-- the length field is the part between the longest object and the check
+storedLength-field : (slot : List ℕ) → isSlabSize (length slot) ≡ true → getAt (longestObject (length slot)) (length slot - checkWidth) slot ≡ storedLength slot
 unfolding getAt storedLength
 storedLength-field slot k =
     let s = length slot in
-    let f = room-frame s k in
-    let w : s - checkWidth - room s ≡ fieldWidth s = omega arith in
-    let short : length (take (fieldWidth s) (drop (room s) slot)) ≤ 8 = rw (length-take (fieldWidth s) (drop (room s) slot)) (omega (arith, fieldWidth-le s)) in
-    rw (le-leb (room s) (s - checkWidth) (omega arith), le-leb (s - checkWidth) s (omega arith), w, take-all 8 (take (fieldWidth s) (drop (room s) slot)) short)
+    let f = longestObject-frame s k in
+    let w : s - checkWidth - longestObject s ≡ fieldWidth s = omega arith in
+    let short : length (take (fieldWidth s) (drop (longestObject s) slot)) ≤ 8 = rw (length-take (fieldWidth s) (drop (longestObject s) slot)) (omega (arith, fieldWidth-le s)) in
+    rw (le-leb (longestObject s) (s - checkWidth) (omega arith), le-leb (s - checkWidth) s (omega arith), w, take-all 8 (take (fieldWidth s) (drop (longestObject s) slot)) short)
 
--- the field, read from where the room ends
-pub stored-read : (slot : List ℕ) (start n : ℕ) → isSlabSize (length slot) ≡ true → start ≡ room (length slot) → n ≡ getAt start (length slot - checkWidth) slot → n ≡ storedLength slot
+-- the field, read from where the longest object ends
+pub stored-read : (slot : List ℕ) (start n : ℕ) → isSlabSize (length slot) ≡ true → start ≡ longestObject (length slot) → n ≡ getAt start (length slot - checkWidth) slot → n ≡ storedLength slot
 stored-read slot start n k p e = e ∙ ap (λ x. getAt x (length slot - checkWidth) slot) p ∙ storedLength-field slot k
 
 -- a read accepts a slot exactly if its length is one of the 78, its check agrees and its stored length fits
@@ -94,13 +94,13 @@ pub record Accepted (slot : List ℕ) (n : ℕ) : Type 0 where
   pub slab : isSlabSize (length slot) ≡ true
   pub intact : isSigned slot ≡ true
   pub stored : storedLength slot ≡ n
-  pub fits : n ≤ room (length slot)
+  pub fits : n ≤ longestObject (length slot)
 
 pub verdict-accepted : (slot : List ℕ) (n : ℕ) → verdictOf slot ≡ R.Object n → Accepted slot n
 unfolding verdictOf
-verdict-accepted slot n = by (isSlabSize (length slot)) (isSigned slot) (ltb (room (length slot)) (storedLength slot)) refl refl refl
+verdict-accepted slot n = by (isSlabSize (length slot)) (isSigned slot) (ltb (longestObject (length slot)) (storedLength slot)) refl refl refl
   where
-    by : (k i l : Bool) → isSlabSize (length slot) ≡ k → isSigned slot ≡ i → ltb (room (length slot)) (storedLength slot) ≡ l
+    by : (k i l : Bool) → isSlabSize (length slot) ≡ k → isSigned slot ≡ i → ltb (longestObject (length slot)) (storedLength slot) ≡ l
         → cond (not k) (R.Refused (refusal wrongShape 0)) (cond (not i) (R.Refused (refusal checkDiffers 0)) (cond l (R.Refused (refusal tooLong 0)) (R.Object (storedLength slot)))) ≡ R.Object n
         → Accepted slot n
     by false i l p q r e = let z : _≡_ {A = ℕ} 0 1 = cc in absurd (omega arith)
@@ -108,24 +108,24 @@ verdict-accepted slot n = by (isSlabSize (length slot)) (isSigned slot) (ltb (ro
     by true true true p q r e = let z : _≡_ {A = ℕ} 0 1 = cc in absurd (omega arith)
     by true true false p q r e =
         let m : storedLength slot ≡ n = cc in
-        record { slab = p; intact = q; stored = m; fits = rw m at (ltb-false (room (length slot)) (storedLength slot) r) }
+        record { slab = p; intact = q; stored = m; fits = rw m at (ltb-false (longestObject (length slot)) (storedLength slot) r) }
 
 pub accepted-verdict : (slot : List ℕ) (n : ℕ) → Accepted slot n → verdictOf slot ≡ R.Object n
 unfolding verdictOf
-accepted-verdict slot n a = rw (a .slab, a .intact, a .stored, le-ltb (room (length slot)) n (a .fits))
+accepted-verdict slot n a = rw (a .slab, a .intact, a .stored, le-ltb (longestObject (length slot)) n (a .fits))
 
 pub verdict-within : (slot : List ℕ) (n : ℕ) → verdictOf slot ≡ R.Object n → n ≤ length slot
 verdict-within slot n e =
     let a = verdict-accepted slot n e in
-    omega (arith, a .fits, room-frame (length slot) (a .slab))
+    omega (arith, a .fits, longestObject-frame (length slot) (a .slab))
 
--- the stored length of a slot in three: the room, the length field, the check
-storedLength-three : (slot p m q : List ℕ) (s : ℕ) → slot ≡ p ++ (m ++ q) → length slot ≡ s → length p ≡ room s → length m ≡ fieldWidth s → storedLength slot ≡ word m
+-- the stored length of a slot in three: what is before the length field, the field, the check
+storedLength-three : (slot p m q : List ℕ) (s : ℕ) → slot ≡ p ++ (m ++ q) → length slot ≡ s → length p ≡ longestObject s → length m ≡ fieldWidth s → storedLength slot ≡ word m
 unfolding storedLength
 storedLength-three slot p m q s e n hp hm =
-    ap (λ (k : ℕ). word (take (fieldWidth k) (drop (room k) slot))) n
-    ∙ ap (λ (x : List ℕ). word (take (fieldWidth s) (drop (room s) x))) e
-    ∙ ap (λ (x : List ℕ). word (take (fieldWidth s) x)) (drop-at p (m ++ q) (room s) hp)
+    ap (λ (k : ℕ). word (take (fieldWidth k) (drop (longestObject k) slot))) n
+    ∙ ap (λ (x : List ℕ). word (take (fieldWidth s) (drop (longestObject s) x))) e
+    ∙ ap (λ (x : List ℕ). word (take (fieldWidth s) x)) (drop-at p (m ++ q) (longestObject s) hp)
     ∙ ap word (take-at m q (fieldWidth s) hm)
 
 framed-three : (s : ℕ) (object : List ℕ)
@@ -139,12 +139,12 @@ framed-two s object =
     framed-three s object ∙ append-assoc object (gap s object) (bytesOf (fieldWidth s) (length object) ++ bytesOf checkWidth (checkOf (body s object)))
 
 -- ---- what is written is read: every object that fits, in every slab
-module _ (s : ℕ) (object : List ℕ) (k : isSlabSize s ≡ true) (h : length object ≤ room s) where
+module _ (s : ℕ) (object : List ℕ) (k : isSlabSize s ≡ true) (h : length object ≤ longestObject s) where
   storedLength-framed : storedLength (framed s object) ≡ length object
   storedLength-framed =
-      let head : length (object ++ gap s object) ≡ room s =
-      length-append object (gap s object) ∙ omega (arith, length-replicate {A = ℕ} (room s - length object) 0) in
-      let lt : length object < 256 ^ fieldWidth s = lt-of-le-of-lt h (room-lt s (omega (arith, isSlabSize-most s k))) in
+      let head : length (object ++ gap s object) ≡ longestObject s =
+      length-append object (gap s object) ∙ omega (arith, length-replicate {A = ℕ} (longestObject s - length object) 0) in
+      let lt : length object < 256 ^ fieldWidth s = lt-of-le-of-lt h (longestObject-lt s (omega (arith, isSlabSize-most s k))) in
       storedLength-three (framed s object) (object ++ gap s object) (bytesOf (fieldWidth s) (length object)) (bytesOf checkWidth (checkOf (body s object))) s
       (framed-three s object) (length-framed s object k h) head (length-bytesOf (fieldWidth s) (length object))
       ∙ word-bytesOf (fieldWidth s) (length object) lt
@@ -156,9 +156,9 @@ module _ (s : ℕ) (object : List ℕ) (k : isSlabSize s ≡ true) (h : length o
       accepted-verdict (framed s object) (length object)
       (record { slab = rw n k; intact = isSigned-signed (body s object) (body-bytes s object b); stored = storedLength-framed; fits = rw n h })
 
-  pub part-framed : Bytes object → part (verdictOf (framed s object)) (framed s object) ≡ object
-  unfolding part
-  part-framed b =
-      ap (λ (v : Verdict). part v (framed s object)) (verdict-framed b)
+  pub objectPart-framed : Bytes object → objectPart (verdictOf (framed s object)) (framed s object) ≡ object
+  unfolding objectPart
+  objectPart-framed b =
+      ap (λ (v : Verdict). objectPart v (framed s object)) (verdict-framed b)
       ∙ ap (take (length object)) (framed-two s object)
       ∙ take-append-seam object (gap s object ++ (bytesOf (fieldWidth s) (length object) ++ bytesOf checkWidth (checkOf (body s object))))

@@ -6,7 +6,7 @@ use lib.Dec.{ltb}
 use lib.ListN.{length, take, drop, replicate}
 use Rattle.refusal.specs.Refusals.{refusal, wrongShape, checkDiffers, tooLong}
 use Rattle.little_endian.specs.LittleEndian.{word, bytesOf}
-use Rattle.sizes.specs.Sizes.{isSlabSize, fieldWidth, room}
+use Rattle.sizes.specs.Sizes.{isSlabSize, fieldWidth, longestObject}
 use Rattle.seal.specs.Seal.{signed, isSigned}
 use Rattle.frame.specs.declared.Written.{Written}
 use Rattle.frame.specs.declared.Written.the-variants as W
@@ -16,7 +16,7 @@ use Rattle.frame.specs.declared.Verdict.the-variants as R
 -- ---- writing
 -- the object, zeros, and the object's length: all of a slot of size s but its check
 unfoldable pub body : ℕ → List ℕ → List ℕ
-body s object = object ++ (replicate (room s - length object) 0 ++ bytesOf (fieldWidth s) (length object))
+body s object = object ++ (replicate (longestObject s - length object) 0 ++ bytesOf (fieldWidth s) (length object))
 
 -- a slot of size s that holds the object
 unfoldable pub framed : ℕ → List ℕ → List ℕ
@@ -30,22 +30,22 @@ pub record Writing : Type 0 where
 unfoldable pub writing : List ℕ → List ℕ → Writing
 writing slot object =
     cond (not (isSlabSize (length slot))) (record { answer = W.Refused (refusal wrongShape 0); slot = slot })
-    (cond (ltb (room (length slot)) (length object)) (record { answer = W.Refused (refusal tooLong 0); slot = slot })
+    (cond (ltb (longestObject (length slot)) (length object)) (record { answer = W.Refused (refusal tooLong 0); slot = slot })
     (record { answer = W.Done; slot = framed (length slot) object }))
 
 -- ---- reading
 -- the number in the length field
 unfoldable pub storedLength : List ℕ → ℕ
-storedLength slot = word (take (fieldWidth (length slot)) (drop (room (length slot)) slot))
+storedLength slot = word (take (fieldWidth (length slot)) (drop (longestObject (length slot)) slot))
 
 unfoldable pub verdictOf : List ℕ → Verdict
 verdictOf slot =
     cond (not (isSlabSize (length slot))) (R.Refused (refusal wrongShape 0))
     (cond (not (isSigned slot)) (R.Refused (refusal checkDiffers 0))
-    (cond (ltb (room (length slot)) (storedLength slot)) (R.Refused (refusal tooLong 0))
+    (cond (ltb (longestObject (length slot)) (storedLength slot)) (R.Refused (refusal tooLong 0))
     (R.Object (storedLength slot))))
 
 -- what a verdict hands back of the slot itself: its first bytes, or none
-unfoldable pub part : Verdict → List ℕ → List ℕ
-part (R.Object n) slot = take n slot
-part (R.Refused r) slot = []
+unfoldable pub objectPart : Verdict → List ℕ → List ℕ
+objectPart (R.Object n) slot = take n slot
+objectPart (R.Refused r) slot = []

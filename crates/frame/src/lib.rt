@@ -15,8 +15,8 @@ ghost use mathlib.Core.Bool.{true};
 ghost use mathlib.Core.Path.{_≡_};
 ghost use Prim.Native.Nat.{_≤_};
 ghost use lib.ListN.{length};
-ghost use Rattle.sizes.specs.Sizes.{isSlabSize, room};
-ghost use Rattle.frame.specs.Frame.{Writing, writing, framed, verdictOf, part};
+ghost use Rattle.sizes.specs.Sizes.{isSlabSize, longestObject};
+ghost use Rattle.frame.specs.Frame.{Writing, writing, framed, verdictOf, objectPart};
 use refusal::Refusal;
 
 pub struct Slab {}
@@ -32,18 +32,18 @@ pub enum Verdict {
 }
 
 // Where the length field starts in a slot.
-fn room_of(slot: &[u8]) -> usize
-    ensures { λ r. ⌜ r ≡ room (length (now (slot .entry))) ⌝ }
+fn longest_in(slot: &[u8]) -> usize
+    ensures { λ r. ⌜ r ≡ longestObject (length (now (slot .entry))) ⌝ }
 {
-    sizes::room_of(slot.len() as u64) as usize
+    sizes::longest_object(slot.len() as u64) as usize
 }
 
 // The slot is laid out anew for an object that fits it.
 fn lay(slot: &mut [u8], object: &[u8])
-    requires { ⌜ (isSlabSize (length (now slot)) ≡ true) × (length (now object) ≤ room (length (now slot))) ⌝ }
+    requires { ⌜ (isSlabSize (length (now slot)) ≡ true) × (length (now object) ≤ longestObject (length (now slot))) ⌝ }
     ensures { λ _. ⌜ now (slot .exit) ≡ framed (length (now (slot .entry))) (now (object .entry)) ⌝ }
 {
-    let start = room_of(slot);
+    let start = longest_in(slot);
     let end = slot.len() - seal::CHECK_WIDTH;
     let n = bytes::copy(object, slot);
     little_endian::put_at(slot, n, start, 0);
@@ -59,7 +59,7 @@ impl Slab {
         if !sizes::is_slab_size(slot.len() as u64) {
             return Written::Refused(Refusal::of(Refusal::WRONG_SHAPE));
         }
-        if room_of(slot) < object.len() {
+        if longest_in(slot) < object.len() {
             return Written::Refused(Refusal::of(Refusal::TOO_LONG));
         }
         lay(slot, object);
@@ -76,7 +76,7 @@ impl Slab {
         if !seal::agrees(slot) {
             return Verdict::Refused(Refusal::of(Refusal::CHECK_DIFFERS));
         }
-        let start = room_of(slot);
+        let start = longest_in(slot);
         let end = slot.len() - seal::CHECK_WIDTH;
         let n = little_endian::get_at(slot, start, end) as usize;
         if start < n {
@@ -87,7 +87,7 @@ impl Slab {
 
     // The object in the slot: the slot's own first bytes.
     pub fn read(slot: &[u8]) -> &[u8]
-        ensures { λ r. ⌜ now r ≡ part (verdictOf (now (slot .entry))) (now (slot .entry)) ⌝ }
+        ensures { λ r. ⌜ now r ≡ objectPart (verdictOf (now (slot .entry))) (now (slot .entry)) ⌝ }
     {
         let Verdict::Object(n) = Slab::verdict(slot) else {
             return &slot[..0];

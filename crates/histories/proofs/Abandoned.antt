@@ -17,7 +17,7 @@ use Rattle.fragmentation.proofs.LawsCut.{between}
 use Rattle.model.specs.Batches.{abandonRows, badRow, afterAbandon, afterOffer, takenBy, updatesOf}
 use Rattle.model.specs.Step.{refusal, after, effect, next, unless, shape, noneOpen, state}
 use Rattle.model.specs.Store.{Store, Row, abandon, Update, offer, Call, newId, release, commit, fresh, rebuild, lookup, counters, defrag, truncation, report}
-use Rattle.model.specs.Tables.{elem, at, writeAll, isOpen, kept, locationsOf, pairs}
+use Rattle.model.specs.Tables.{elem, slotPlace, writeAll, isOpen, kept, locationsOf, pairs}
 use Rattle.model.specs.Verdict.{ok, _⨾_, test, Verdict, refuse}
 use Rattle.model.proofs.Batches.{length-place}
 use Rattle.model.proofs.Answered.{next-granted, next-refused}
@@ -34,28 +34,28 @@ use Rattle.histories.proofs.SameAnswers.{answers-same}
 
 -- one of the locations has its slot at p, or none has
 found : (cap p : ℕ) (ls : List ℕ)
-    → ((l : ℕ) × (elem l ls ≡ true) × (isLocation cap l ≡ true) × (p ≡ at cap l))
-    ⊎ ((l : ℕ) → elem l ls ≡ true → isLocation cap l ≡ true → p ≢ at cap l)
+    → ((l : ℕ) × (elem l ls ≡ true) × (isLocation cap l ≡ true) × (p ≡ slotPlace cap l))
+    ⊎ ((l : ℕ) → elem l ls ≡ true → isLocation cap l ≡ true → p ≢ slotPlace cap l)
 found cap p [] = inr (λ l e. clash (sym e))
-found cap p (k ∷ ks) = go (isLocation cap k) refl (ℕ-discrete p (at cap k)) (found cap p ks)
+found cap p (k ∷ ks) = go (isLocation cap k) refl (ℕ-discrete p (slotPlace cap k)) (found cap p ks)
   where
     Here : List ℕ → Type 0
-    Here ls = (l : ℕ) × (elem l ls ≡ true) × (isLocation cap l ≡ true) × (p ≡ at cap l)
+    Here ls = (l : ℕ) × (elem l ls ≡ true) × (isLocation cap l ≡ true) × (p ≡ slotPlace cap l)
 
     None : List ℕ → Type 0
-    None ls = (l : ℕ) → elem l ls ≡ true → isLocation cap l ≡ true → p ≢ at cap l
+    None ls = (l : ℕ) → elem l ls ≡ true → isLocation cap l ≡ true → p ≢ slotPlace cap l
 
-    go : (b : Bool) → isLocation cap k ≡ b → Dec (p ≡ at cap k) → Here ks ⊎ None ks → Here (k ∷ ks) ⊎ None (k ∷ ks)
+    go : (b : Bool) → isLocation cap k ≡ b → Dec (p ≡ slotPlace cap k) → Here ks ⊎ None ks → Here (k ∷ ks) ⊎ None (k ∷ ks)
     go b z d (inl h) = inl (h .0, elem-tail (h .0) k ks (h .1), h .2, h .3)
     go true z (yes q) (inr f) = inl (k, elem-head k k ks refl, z, q)
     go false z d (inr f) = inr (λ l e n. first l n (elem-cases l k ks e))
       where
-        first : (l : ℕ) → isLocation cap l ≡ true → (l ≡ k) ⊎ (elem l ks ≡ true) → p ≢ at cap l
+        first : (l : ℕ) → isLocation cap l ≡ true → (l ≡ k) ⊎ (elem l ks ≡ true) → p ≢ slotPlace cap l
         first l n (inl s) = contradiction n (rw s z)
         first l n (inr m) = f l m n
     go true z (no q) (inr f) = inr (λ l e n. first l n (elem-cases l k ks e))
       where
-        first : (l : ℕ) → isLocation cap l ≡ true → (l ≡ k) ⊎ (elem l ks ≡ true) → p ≢ at cap l
+        first : (l : ℕ) → isLocation cap l ≡ true → (l ≡ k) ⊎ (elem l ks ≡ true) → p ≢ slotPlace cap l
         first l n (inl s) = rw s q
         first l n (inr m) = f l m n
 
@@ -63,8 +63,8 @@ found cap p (k ∷ ks) = go (isLocation cap k) refl (ℕ-discrete p (at cap k)) 
 undone : (cap : ℕ) (ls t : List ℕ) → ((l : ℕ) → elem l ls ≡ true → l ≢ 0 → Spot cap t l) → writeAll cap ls 0 (writeAll cap ls 1 t) ≡ t
 undone cap ls t h = ext-getD 0 _ _ (length-writeAll cap ls 0 (writeAll cap ls 1 t) ∙ length-writeAll cap ls 1 t) (λ p b. go p (found cap p ls))
   where
-    go : (p : ℕ) → ((l : ℕ) × (elem l ls ≡ true) × (isLocation cap l ≡ true) × (p ≡ at cap l))
-        ⊎ ((l : ℕ) → elem l ls ≡ true → isLocation cap l ≡ true → p ≢ at cap l)
+    go : (p : ℕ) → ((l : ℕ) × (elem l ls ≡ true) × (isLocation cap l ≡ true) × (p ≡ slotPlace cap l))
+        ⊎ ((l : ℕ) → elem l ls ≡ true → isLocation cap l ≡ true → p ≢ slotPlace cap l)
         → getD (writeAll cap ls 0 (writeAll cap ls 1 t)) p 0 ≡ getD t p 0
     go p (inl f) =
         let q = h (f .0) (f .1) (isLocation-nz cap (f .0) (f .2)) in
@@ -83,7 +83,7 @@ rows-fine s z i (r ∷ rs) k = λ j. test (fine-row j) tablesDisagree i ⨾ rows
 
     loc : (b : Bool) → eqb (r .1) 0 ≡ b → (b || isLocation (s .slots) (r .1)) ≡ true
     loc true e = refl
-    loc false e = k .0 .taken (eqb-false (r .1) 0 e) .range
+    loc false e = k .0 .reserved (eqb-false (r .1) 0 e) .range
 
     fine-row : badRow s r ≡ false
     fine-row = ap not (all (all (lt-ltb 0 (r .0) (k .0 .pos)) range) (loc (eqb (r .1) 0) refl))

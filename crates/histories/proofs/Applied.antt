@@ -11,11 +11,10 @@ use lib.ListN.{getD, length, set, length-set}
 use lib.Seq.{getD-set-other, getD-set-same}
 use Rattle.address.specs.Address.{isLocation}
 use Rattle.model.specs.Store.{Row}
-use Rattle.model.specs.Tables.{at, write, elem, idsOf, locationsOf}
+use Rattle.model.specs.Tables.{slotPlace, write, elem, idsOf, locationsOf}
 use Rattle.model.specs.Truncation.{keeps}
-use Rattle.model.proofs.Tables.{nz-lt, one-nz, isLocation-nz, at-inj, write-same, write-other, elem-head, elem-tail, length-write, set-each, write-each, set-cases, elem-cases}
-use Rattle.histories.specs.Invariant.{Good, KeptRows, Located, Taken}
-use Rattle.histories.specs.Statements.{taken}
+use Rattle.model.proofs.Tables.{nz-lt, one-nz, isLocation-nz, slotPlace-inj, write-same, write-other, elem-head, elem-tail, length-write, set-each, write-each, set-cases, elem-cases}
+use Rattle.histories.specs.Invariant.{Good, KeptRows, Located, Reserved}
 
 -- ---- one kept update is applied
 
@@ -27,25 +26,25 @@ module _ (cap : ℕ) (im lo sm ow : List ℕ) (i l : ℕ) (ks : List Row) (g : G
   i-lt = rw (g .same-ids) (nz-lt im i (one-nz (g .keeps .0 .id-held)))
 
   -- the slot of another id's location is not that of i's
-  apart : (j : ℕ) → j ≢ i → getD lo j 0 ≢ 0 → isLocation cap o ≡ true → at cap (getD lo j 0) ≢ at cap o
+  apart : (j : ℕ) → j ≢ i → getD lo j 0 ≢ 0 → isLocation cap o ≡ true → slotPlace cap (getD lo j 0) ≢ slotPlace cap o
   unfolding o
   apart j n h z e = n (sym (g .located j h .owner) ∙ ap (λ p. getD ow p 0) e ∙ g .located i (isLocation-nz cap o z) .owner)
 
   -- nor is that of a location that no id has
-  apart-new : (k : ℕ) → isLocation cap k ≡ true → ((j : ℕ) → getD lo j 0 ≢ k) → isLocation cap o ≡ true → at cap k ≢ at cap o
+  apart-new : (k : ℕ) → isLocation cap k ≡ true → ((j : ℕ) → getD lo j 0 ≢ k) → isLocation cap o ≡ true → slotPlace cap k ≢ slotPlace cap o
   unfolding o
-  apart-new k v h z e = h i (sym (at-inj cap k o v z e))
+  apart-new k v h z e = h i (sym (slotPlace-inj cap k o v z e))
 
   -- a slot that is held afterwards is another than the old one
-  still : (k : ℕ) → getD (write cap o 2 sm) (at cap k) 0 ≡ 1 → isLocation cap o ≡ true → at cap k ≢ at cap o
+  still : (k : ℕ) → getD (write cap o 2 sm) (slotPlace cap k) 0 ≡ 1 → isLocation cap o ≡ true → slotPlace cap k ≢ slotPlace cap o
   unfolding o
   still k h z e =
-      let w : getD (write cap o 2 sm) (at cap o) 0 ≡ 2 = write-same cap o 2 sm z (nz-lt sm (at cap o) (one-nz (g .located i (isLocation-nz cap o z) .slot-held))) in
-      let w′ : getD (write cap o 2 sm) (at cap k) 0 ≡ 2 = rw e w in
+      let w : getD (write cap o 2 sm) (slotPlace cap o) 0 ≡ 2 = write-same cap o 2 sm z (nz-lt sm (slotPlace cap o) (one-nz (g .located i (isLocation-nz cap o z) .slot-held))) in
+      let w′ : getD (write cap o 2 sm) (slotPlace cap k) 0 ≡ 2 = rw e w in
       omega arith
 
-  was : (k : ℕ) → getD (write cap o 2 sm) (at cap k) 0 ≡ 1 → getD sm (at cap k) 0 ≡ 1
-  was k h = sym (write-other cap o 2 sm (at cap k) (still k h)) ∙ h
+  was : (k : ℕ) → getD (write cap o 2 sm) (slotPlace cap k) 0 ≡ 1 → getD sm (slotPlace cap k) 0 ≡ 1
+  was k h = sym (write-other cap o 2 sm (slotPlace cap k) (still k h)) ∙ h
 
   -- the kept updates after the first
   later : (lo′ im′ : List ℕ) (rs : List Row)
@@ -59,9 +58,9 @@ module _ (cap : ℕ) (im lo sm ow : List ℕ) (i l : ℕ) (ks : List Row) (g : G
       id-held = hi (r .0) (elem-head (r .0) (r .0) (idsOf rs) refl) ∙ t .0 .id-held;
       new-id = t .0 .new-id;
       new-loc = t .0 .new-loc;
-      taken = λ n. let k = t .0 .taken n in record {
+      reserved = λ n. let k = t .0 .reserved n in record {
         range = k .range;
-        slot-held = write-other cap o 2 sm (at cap (r .1)) (apart-new (r .1) (k .range) (k .nobody)) ∙ k .slot-held;
+        slot-held = write-other cap o 2 sm (slotPlace cap (r .1)) (apart-new (r .1) (k .range) (k .nobody)) ∙ k .slot-held;
         nobody = λ j. hl (r .1) (elem-head (r .1) (r .1) (locationsOf rs) refl) n j (k .nobody j);
       };
     },
@@ -108,23 +107,23 @@ apply-free cap im lo sm ow i ks g = record {
         let same : getD (set lo i 0) j 0 ≡ getD lo j 0 = getD-set-other lo i j 0 0 ne in
         let nz : getD lo j 0 ≢ 0 = rw same at n in
         let L = g .located j nz in
-        let away : isLocation cap old ≡ true → at cap (getD lo j 0) ≢ at cap old = apart cap im lo sm ow i 0 ks g j ne nz in
+        let away : isLocation cap old ≡ true → slotPlace cap (getD lo j 0) ≢ slotPlace cap old = apart cap im lo sm ow i 0 ks g j ne nz in
         rw same (record {
           pos = L .pos;
           id-held = getD-set-other im i j 2 0 ne ∙ L .id-held;
           range = L .range;
-          slot-held = write-other cap old 2 sm (at cap (getD lo j 0)) away ∙ L .slot-held;
-          owner = write-other cap old 0 ow (at cap (getD lo j 0)) away ∙ L .owner;
+          slot-held = write-other cap old 2 sm (slotPlace cap (getD lo j 0)) away ∙ L .slot-held;
+          owner = write-other cap old 0 ow (slotPlace cap (getD lo j 0)) away ∙ L .owner;
         })
 
-    acc : (l : ℕ) → isLocation cap l ≡ true → getD (write cap old 2 sm) (at cap l) 0 ≡ 1
-        → (getD (set lo i 0) (getD (write cap old 0 ow) (at cap l) 0) 0 ≡ l) ⊎ (elem l (locationsOf ks) ≡ true)
+    acc : (l : ℕ) → isLocation cap l ≡ true → getD (write cap old 2 sm) (slotPlace cap l) 0 ≡ 1
+        → (getD (set lo i 0) (getD (write cap old 0 ow) (slotPlace cap l) 0) 0 ≡ l) ⊎ (elem l (locationsOf ks) ≡ true)
     acc l v h =
-        rw (write-other cap old 0 ow (at cap l) (still cap im lo sm ow i 0 ks g l h))
+        rw (write-other cap old 0 ow (slotPlace cap l) (still cap im lo sm ow i 0 ks g l h))
         (go (g .accounted l v (was cap im lo sm ow i 0 ks g l h)))
       where
         own : ℕ
-        own = getD ow (at cap l) 0
+        own = getD ow (slotPlace cap l) 0
 
         go : (getD lo own 0 ≡ l) ⊎ (elem l (0 ∷ locationsOf ks) ≡ true) → (getD (set lo i 0) own 0 ≡ l) ⊎ (elem l (locationsOf ks) ≡ true)
         go (inl e) = inl (getD-set-other lo i own 0 0 ne ∙ e)
@@ -133,7 +132,7 @@ apply-free cap im lo sm ow i ks g = record {
             ne s =
                 let e′ : old ≡ l = ap (λ x. getD lo x 0) (sym s) ∙ e in
                 let nz : isLocation cap old ≡ true = rw e′ v in
-                still cap im lo sm ow i 0 ks g l h nz (ap (at cap) (sym e′))
+                still cap im lo sm ow i 0 ks g l h nz (ap (slotPlace cap) (sym e′))
         go (inr m) = first (elem-cases l 0 (locationsOf ks) m)
           where
             first : (l ≡ 0) ⊎ (elem l (locationsOf ks) ≡ true) → (getD (set lo i 0) own 0 ≡ l) ⊎ (elem l (locationsOf ks) ≡ true)
@@ -151,24 +150,24 @@ apply-put cap im lo sm ow i n ks nz g = record {
   id-mark = g .id-mark;
   slot-mark = write-each (λ x. x ≤ 2) cap old 2 sm (omega arith) (g .slot-mark);
   located = λ j. loc j (ℕ-discrete j i);
-  accounted = λ l v h. acc l v h (ℕ-discrete (at cap l) (at cap n));
+  accounted = λ l v h. acc l v h (ℕ-discrete (slotPlace cap l) (slotPlace cap n));
   keeps = later cap im lo sm ow i n ks g (set lo i n) im ks (λ j e. refl) kept-loc (g .keeps .1);
 }
   where
     old : ℕ
     old = getD lo i 0
 
-    tk : Taken cap lo sm n
-    tk = g .keeps .0 .taken nz
+    tk : Reserved cap lo sm n
+    tk = g .keeps .0 .reserved nz
 
-    new-away : isLocation cap old ≡ true → at cap n ≢ at cap old
+    new-away : isLocation cap old ≡ true → slotPlace cap n ≢ slotPlace cap old
     new-away = apart-new cap im lo sm ow i n ks g n (tk .range) (tk .nobody)
 
     set-here : getD (set lo i n) i 0 ≡ n
     set-here = getD-set-same lo i n 0 (i-lt cap im lo sm ow i n ks g)
 
-    n-in : at cap n < length ow
-    n-in = rw (g .same-slots) (nz-lt sm (at cap n) (one-nz (tk .slot-held)))
+    n-in : slotPlace cap n < length ow
+    n-in = rw (g .same-slots) (nz-lt sm (slotPlace cap n) (one-nz (tk .slot-held)))
 
     kept-loc : (k : ℕ) → elem k (locationsOf ks) ≡ true → k ≢ 0 → (j : ℕ) → getD lo j 0 ≢ k → getD (set lo i n) j 0 ≢ k
     kept-loc k m z j h e = go (set-cases lo i n j)
@@ -183,7 +182,7 @@ apply-put cap im lo sm ow i n ks nz g = record {
       pos = g .keeps .0 .pos;
       id-held = g .keeps .0 .id-held;
       range = tk .range;
-      slot-held = write-other cap old 2 sm (at cap n) new-away ∙ tk .slot-held;
+      slot-held = write-other cap old 2 sm (slotPlace cap n) new-away ∙ tk .slot-held;
       owner = write-same cap n i ow (tk .range) n-in;
     }))
     loc j (no ne) h =
@@ -194,21 +193,21 @@ apply-put cap im lo sm ow i n ks nz g = record {
           pos = L .pos;
           id-held = L .id-held;
           range = L .range;
-          slot-held = write-other cap old 2 sm (at cap (getD lo j 0)) (apart cap im lo sm ow i n ks g j ne jz) ∙ L .slot-held;
-          owner = write-other cap n i ow (at cap (getD lo j 0))
-              (λ z e. tk .nobody j (at-inj cap (getD lo j 0) n (L .range) (tk .range) e)) ∙ L .owner;
+          slot-held = write-other cap old 2 sm (slotPlace cap (getD lo j 0)) (apart cap im lo sm ow i n ks g j ne jz) ∙ L .slot-held;
+          owner = write-other cap n i ow (slotPlace cap (getD lo j 0))
+              (λ z e. tk .nobody j (slotPlace-inj cap (getD lo j 0) n (L .range) (tk .range) e)) ∙ L .owner;
         })
 
-    acc : (l : ℕ) → isLocation cap l ≡ true → getD (write cap old 2 sm) (at cap l) 0 ≡ 1 → Dec (at cap l ≡ at cap n)
-        → (getD (set lo i n) (getD (write cap n i ow) (at cap l) 0) 0 ≡ l) ⊎ (elem l (locationsOf ks) ≡ true)
+    acc : (l : ℕ) → isLocation cap l ≡ true → getD (write cap old 2 sm) (slotPlace cap l) 0 ≡ 1 → Dec (slotPlace cap l ≡ slotPlace cap n)
+        → (getD (set lo i n) (getD (write cap n i ow) (slotPlace cap l) 0) 0 ≡ l) ⊎ (elem l (locationsOf ks) ≡ true)
     acc l v h (yes s) =
-        let same : l ≡ n = at-inj cap l n v (tk .range) s in
+        let same : l ≡ n = slotPlace-inj cap l n v (tk .range) s in
         inl (rw same (rw (write-same cap n i ow (tk .range) n-in) set-here))
     acc l v h (no ne) =
-        rw (write-other cap n i ow (at cap l) (λ z. ne)) (go (g .accounted l v (was cap im lo sm ow i n ks g l h)))
+        rw (write-other cap n i ow (slotPlace cap l) (λ z. ne)) (go (g .accounted l v (was cap im lo sm ow i n ks g l h)))
       where
         own : ℕ
-        own = getD ow (at cap l) 0
+        own = getD ow (slotPlace cap l) 0
 
         go : (getD lo own 0 ≡ l) ⊎ (elem l (n ∷ locationsOf ks) ≡ true) → (getD (set lo i n) own 0 ≡ l) ⊎ (elem l (locationsOf ks) ≡ true)
         go (inl e) = inl (getD-set-other lo i own n 0 away ∙ e)
@@ -217,9 +216,9 @@ apply-put cap im lo sm ow i n ks nz g = record {
             away s =
                 let e′ : old ≡ l = ap (λ x. getD lo x 0) (sym s) ∙ e in
                 let z : isLocation cap old ≡ true = rw e′ v in
-                still cap im lo sm ow i n ks g l h z (ap (at cap) (sym e′))
+                still cap im lo sm ow i n ks g l h z (ap (slotPlace cap) (sym e′))
         go (inr m) = first (elem-cases l n (locationsOf ks) m)
           where
             first : (l ≡ n) ⊎ (elem l (locationsOf ks) ≡ true) → (getD (set lo i n) own 0 ≡ l) ⊎ (elem l (locationsOf ks) ≡ true)
-            first (inl z) = absurd (ne (ap (at cap) z))
+            first (inl z) = absurd (ne (ap (slotPlace cap) z))
             first (inr k) = inr k

@@ -16,12 +16,11 @@ use Rattle.marks.proofs.LawsCount.{lastTaken-le}
 use Rattle.model.specs.Batches.{applyRow, applyRows, afterCommit}
 use Rattle.model.specs.Ids.{afterNewId, nextId, bumpPending, afterRelease}
 use Rattle.model.specs.Store.{Store, Row}
-use Rattle.model.specs.Tables.{at, kept, sized, capacities, tablesFit, idMarksFit, locationsFit, slotMarksFit, ownersFit, batchFits, talliesFit, slabTip, part, locationOf}
+use Rattle.model.specs.Tables.{slotPlace, kept, sized, capacities, tablesFit, idMarksFit, locationsFit, slotMarksFit, ownersFit, batchFits, talliesFit, slabTip, part, locationOf}
 use Rattle.model.specs.Truncation.{keeps}
 use Rattle.model.proofs.Granted.{capacities-range, tabled}
 use Rattle.model.proofs.Tables.{length-part, length-bump, set-each, set-keeps, length-write}
 use Rattle.histories.specs.Invariant.{KeptRows, Good, Inv}
-use Rattle.histories.specs.Statements.{taken}
 use Rattle.histories.proofs.Applied.{apply-free, apply-put}
 
 -- ---- sizes
@@ -117,7 +116,7 @@ kept-im cap im im′ lo sm (r ∷ rs) h t = (
     id-held = h (r .0) (t .0 .pos) (t .0 .id-held);
     new-id = t .0 .new-id;
     new-loc = t .0 .new-loc;
-    taken = t .0 .taken;
+    reserved = t .0 .reserved;
   },
   kept-im cap im im′ lo sm rs h (t .1),
 )
@@ -152,7 +151,7 @@ kept-sm cap im lo sm sm′ (r ∷ rs) h t = (
     id-held = t .0 .id-held;
     new-id = t .0 .new-id;
     new-loc = t .0 .new-loc;
-    taken = λ n. let k = t .0 .taken n in record { range = k .range; slot-held = h (at cap (r .1)) (k .slot-held); nobody = k .nobody };
+    reserved = λ n. let k = t .0 .reserved n in record { range = k .range; slot-held = h (slotPlace cap (r .1)) (k .slot-held); nobody = k .nobody };
   },
   kept-sm cap im lo sm sm′ rs h (t .1),
 )

@@ -15,13 +15,13 @@ use Rattle.marks.specs.Marks.{isHeld}
 use Rattle.fragmentation.proofs.LawsCut.{one}
 use Rattle.model.specs.Batches.{place, spotFor, idOf, updates, afterOffer, takenBy, afterAbandon}
 use Rattle.model.specs.Store.{Update, Store, Row}
-use Rattle.model.specs.Tables.{write, at, elem, heldId, inIds, pairs, idsOf, locationsOf, kept, writeAll, locationOf}
+use Rattle.model.specs.Tables.{write, slotPlace, elem, heldId, inIds, pairs, idsOf, locationsOf, kept, writeAll, locationOf}
 use Rattle.model.specs.Truncation.{keeps}
 use Rattle.model.specs.Verdict.{ok}
 use Rattle.model.proofs.Batches.{spotFor-is, length-place, length-bumpEach, length-useEach}
-use Rattle.model.proofs.Tables.{write-cases, Spot, length-write, elem-cases, write-same, elem-tail, elem-head, length-writeAll, writeAll-each, writeAll-keeps, writeAll-same, writeAll-other, at-inj, isLocation-nz, writeAll-cases, nz-lt, one-nz}
+use Rattle.model.proofs.Tables.{write-cases, Spot, length-write, elem-cases, write-same, elem-tail, elem-head, length-writeAll, writeAll-each, writeAll-keeps, writeAll-same, writeAll-other, slotPlace-inj, isLocation-nz, writeAll-cases, nz-lt, one-nz}
 use Rattle.model.proofs.Verdicts.{then-ok, test-ok, first-ok}
-use Rattle.histories.specs.Invariant.{Taken, KeptRows, Inv}
+use Rattle.histories.specs.Invariant.{Reserved, KeptRows, Inv}
 use Rattle.histories.specs.Statements.{seen}
 use Rattle.histories.proofs.Kept.{sized-same, Sizes, sizes-of, GoodS}
 
@@ -48,7 +48,7 @@ place-free cap t (u ∷ us) c len l e n =
     go r (inl s) = rw s (spotFor-is cap t u c len (rw s at n))
     go r (inr m) = let q = r m in record {
       range = q .range;
-      is-free = was-free cap (spotFor cap t u) t (at cap l) (q .is-free);
+      is-free = was-free cap (spotFor cap t u) t (slotPlace cap l) (q .is-free);
       inside = rw length-write at (q .inside);
     }
 
@@ -67,8 +67,8 @@ place-once cap t u us c len n = go (elem w rest) refl
     go false e = refl
     go true e =
         let q = place-free cap (write cap w 1 t) us c (length-write cap w 1 t ∙ len) w e n in
-        let z : getD (write cap w 1 t) (at cap w) 0 ≡ 1 = write-same cap w 1 t (spotFor-is cap t u c len n .range) (spotFor-is cap t u c len n .inside) in
-        let y : getD (write cap w 1 t) (at cap w) 0 ≡ 0 = q .is-free in
+        let z : getD (write cap w 1 t) (slotPlace cap w) 0 ≡ 1 = write-same cap w 1 t (spotFor-is cap t u c len n .range) (spotFor-is cap t u c len n .inside) in
+        let y : getD (write cap w 1 t) (slotPlace cap w) 0 ≡ 0 = q .is-free in
         absurd (omega arith)
 
 -- ---- what a granted offer knows of its updates
@@ -136,7 +136,7 @@ kept-offer s us = pairs-front us (takenBy s us) _ _ (length-place (s .slots) (s 
 -- the rows of updates whose slots are taken from t on, where all of them are held in sm
 offered : (s : Store) (sm : List ℕ) (t : List ℕ) (us : List Update) → s .slots ≤ 65536 → length t ≡ slabs * s .slots
     → ((i : ℕ) → getD (s .idMarks) i 0 ≤ 2) → Fine s us
-    → ((l : ℕ) → elem l (place (s .slots) t us) ≡ true → l ≢ 0 → Taken (s .slots) (s .locations) sm l)
+    → ((l : ℕ) → elem l (place (s .slots) t us) ≡ true → l ≢ 0 → Reserved (s .slots) (s .locations) sm l)
     → KeptRows (s .slots) (s .idMarks) (s .locations) sm (pairs (length us) (map idOf us) (place (s .slots) t us))
 offered s sm t [] c len m f h = tt
 offered s sm t (u ∷ us) c len m f h =
@@ -149,7 +149,7 @@ offered s sm t (u ∷ us) c len m f h =
         id-held = one .1;
         new-id = rw (ids-pairs us (place (s .slots) t′ us) le) (f .1);
         new-loc = λ n. rw (locs-pairs us (place (s .slots) t′ us) le) (place-once (s .slots) t u us c len n);
-        taken = λ n. h w (elem-head w w (place (s .slots) t′ us) refl) n;
+        reserved = λ n. h w (elem-head w w (place (s .slots) t′ us) refl) n;
       },
       offered s sm t′ us c (length-write (s .slots) w 1 t ∙ len) m (f .2) (λ l e. h l (elem-tail l w (place (s .slots) t′ us) e)),
     )
@@ -185,7 +185,7 @@ keep-offer s us v cl few u = record {
       owner = L .owner;
     };
     accounted = λ l w e. rw (locs-pairs us ls len) (acc l w e (elem l ls) refl);
-    keeps = offered s (writeAll cap ls 1 sm) sm us (g .small) (g .full) (g .id-mark) (fine s [] 0 us u) taken;
+    keeps = offered s (writeAll cap ls 1 sm) sm us (g .small) (g .full) (g .id-mark) (fine s [] 0 us u) reserved;
   });
 }
   where
@@ -207,28 +207,28 @@ keep-offer s us v cl few u = record {
     g : GoodS s []
     g = rw (ap (λ n. pairs (pred n) (s .batch .keptIds) (s .batch .keptLocations)) cl) at (v .good)
 
-    taken : (l : ℕ) → elem l ls ≡ true → l ≢ 0 → Taken cap (s .locations) (writeAll cap ls 1 sm) l
-    taken l e n = let q = place-free cap sm us (g .small) (g .full) l e n in record {
+    reserved : (l : ℕ) → elem l ls ≡ true → l ≢ 0 → Reserved cap (s .locations) (writeAll cap ls 1 sm) l
+    reserved l e n = let q = place-free cap sm us (g .small) (g .full) l e n in record {
       range = q .range;
       slot-held = writeAll-same cap ls 1 sm l e (q .range) (q .inside);
-      nobody = λ j b. let y : getD sm (at cap l) 0 ≡ 1 = rw b at (g .located j (rw b n) .slot-held) in
-          let y′ : getD sm (at cap l) 0 ≡ 0 = q .is-free in omega arith;
+      nobody = λ j b. let y : getD sm (slotPlace cap l) 0 ≡ 1 = rw b at (g .located j (rw b n) .slot-held) in
+          let y′ : getD sm (slotPlace cap l) 0 ≡ 0 = q .is-free in omega arith;
     }
 
-    acc : (l : ℕ) → isLocation cap l ≡ true → getD (writeAll cap ls 1 sm) (at cap l) 0 ≡ 1 → (b : Bool) → elem l ls ≡ b
-        → (getD (s .locations) (getD (s .owners) (at cap l) 0) 0 ≡ l) ⊎ (b ≡ true)
+    acc : (l : ℕ) → isLocation cap l ≡ true → getD (writeAll cap ls 1 sm) (slotPlace cap l) 0 ≡ 1 → (b : Bool) → elem l ls ≡ b
+        → (getD (s .locations) (getD (s .owners) (slotPlace cap l) 0) 0 ≡ l) ⊎ (b ≡ true)
     acc l w e true m = inr refl
-    acc l w e false m = g .accounted l w (sym (writeAll-other cap ls 1 sm (at cap l) (λ k i n p.
-        true≢false (sym (rw (← at-inj cap l k w n p) at i) ∙ m))) ∙ e)
+    acc l w e false m = g .accounted l w (sym (writeAll-other cap ls 1 sm (slotPlace cap l) (λ k i n p.
+        true≢false (sym (rw (← slotPlace-inj cap l k w n p) at i) ∙ m))) ∙ e)
 
 -- ---- abandon
 
-pub kept-taken : (cap : ℕ) (im lo sm : List ℕ) (ks : List Row) → KeptRows cap im lo sm ks → (l : ℕ) → elem l (locationsOf ks) ≡ true → l ≢ 0 → Taken cap lo sm l
-kept-taken cap im lo sm [] t l e n = clash (sym e)
-kept-taken cap im lo sm (r ∷ rs) t l e n = go (λ m. kept-taken cap im lo sm rs (t .1) l m n) (elem-cases l (r .1) (locationsOf rs) e)
+pub kept-reserved : (cap : ℕ) (im lo sm : List ℕ) (ks : List Row) → KeptRows cap im lo sm ks → (l : ℕ) → elem l (locationsOf ks) ≡ true → l ≢ 0 → Reserved cap lo sm l
+kept-reserved cap im lo sm [] t l e n = clash (sym e)
+kept-reserved cap im lo sm (r ∷ rs) t l e n = go (λ m. kept-reserved cap im lo sm rs (t .1) l m n) (elem-cases l (r .1) (locationsOf rs) e)
   where
-    go : (elem l (locationsOf rs) ≡ true → Taken cap lo sm l) → (l ≡ r .1) ⊎ (elem l (locationsOf rs) ≡ true) → Taken cap lo sm l
-    go f (inl s) = rw s (t .0 .taken (rw s at n))
+    go : (elem l (locationsOf rs) ≡ true → Reserved cap lo sm l) → (l ≡ r .1) ⊎ (elem l (locationsOf rs) ≡ true) → Reserved cap lo sm l
+    go f (inl s) = rw s (t .0 .reserved (rw s at n))
     go f (inr m) = f m
 
 pub keep-abandon : (s : Store) → Inv s → Inv (afterAbandon s)
@@ -248,7 +248,7 @@ keep-abandon s v = record {
       id-held = L .id-held;
       range = L .range;
       slot-held = writeAll-other cap ls 0 sm _ (λ l e z p.
-          taken l e (isLocation-nz cap l z) .nobody i (at-inj cap (locationOf s i) l (L .range) z p)) ∙ L .slot-held;
+          reserved l e (isLocation-nz cap l z) .nobody i (slotPlace-inj cap (locationOf s i) l (L .range) z p)) ∙ L .slot-held;
       owner = L .owner;
     };
     accounted = acc;
@@ -268,21 +268,21 @@ keep-abandon s v = record {
     g : GoodS s (kept s)
     g = v .good
 
-    taken : (l : ℕ) → elem l ls ≡ true → l ≢ 0 → Taken cap (s .locations) sm l
-    taken = kept-taken cap (s .idMarks) (s .locations) sm (kept s) (g .keeps)
+    reserved : (l : ℕ) → elem l ls ≡ true → l ≢ 0 → Reserved cap (s .locations) sm l
+    reserved = kept-reserved cap (s .idMarks) (s .locations) sm (kept s) (g .keeps)
 
-    acc : (l : ℕ) → isLocation cap l ≡ true → getD (writeAll cap ls 0 sm) (at cap l) 0 ≡ 1
-        → (getD (s .locations) (getD (s .owners) (at cap l) 0) 0 ≡ l) ⊎ (false ≡ true)
-    acc l w e = go (g .accounted l w (was (writeAll-cases cap ls 0 sm (at cap l))))
+    acc : (l : ℕ) → isLocation cap l ≡ true → getD (writeAll cap ls 0 sm) (slotPlace cap l) 0 ≡ 1
+        → (getD (s .locations) (getD (s .owners) (slotPlace cap l) 0) 0 ≡ l) ⊎ (false ≡ true)
+    acc l w e = go (g .accounted l w (was (writeAll-cases cap ls 0 sm (slotPlace cap l))))
       where
-        was : (getD (writeAll cap ls 0 sm) (at cap l) 0 ≡ 0) ⊎ (getD (writeAll cap ls 0 sm) (at cap l) 0 ≡ getD sm (at cap l) 0) → getD sm (at cap l) 0 ≡ 1
+        was : (getD (writeAll cap ls 0 sm) (slotPlace cap l) 0 ≡ 0) ⊎ (getD (writeAll cap ls 0 sm) (slotPlace cap l) 0 ≡ getD sm (slotPlace cap l) 0) → getD sm (slotPlace cap l) 0 ≡ 1
         was (inl z) = omega arith
         was (inr z) = sym z ∙ e
 
-        go : (getD (s .locations) (getD (s .owners) (at cap l) 0) 0 ≡ l) ⊎ (elem l ls ≡ true)
-            → (getD (s .locations) (getD (s .owners) (at cap l) 0) 0 ≡ l) ⊎ (false ≡ true)
+        go : (getD (s .locations) (getD (s .owners) (slotPlace cap l) 0) 0 ≡ l) ⊎ (elem l ls ≡ true)
+            → (getD (s .locations) (getD (s .owners) (slotPlace cap l) 0) 0 ≡ l) ⊎ (false ≡ true)
         go (inl q) = inl q
         go (inr m) =
             let n = isLocation-nz cap l w in
-            let z : getD (writeAll cap ls 0 sm) (at cap l) 0 ≡ 0 = writeAll-same cap ls 0 sm l m w (nz-lt sm (at cap l) (one-nz (taken l m n .slot-held))) in
+            let z : getD (writeAll cap ls 0 sm) (slotPlace cap l) 0 ≡ 0 = writeAll-same cap ls 0 sm l m w (nz-lt sm (slotPlace cap l) (one-nz (reserved l m n .slot-held))) in
             absurd (omega arith)

@@ -14,18 +14,18 @@ use Rattle.refusal.proofs.Tests.{and-true}
 use Rattle.address.specs.Address.{isLocation, slabs}
 use Rattle.model.specs.Rebuild.{rows, heldBy, locatedBy, ownedBy, rebuilt}
 use Rattle.model.specs.Store.{Store, Row}
-use Rattle.model.specs.Tables.{at, write, inIds, elem, idsOf, locationsOf, writeAll, sized, capacities}
+use Rattle.model.specs.Tables.{slotPlace, write, inIds, elem, idsOf, locationsOf, writeAll, sized, capacities}
 use Rattle.model.specs.Truncation.{keeps}
 use Rattle.model.specs.Verdict.{ok}
 use Rattle.model.proofs.Batches.{length-useEach}
 use Rattle.model.proofs.Granted.{capacities-range}
-use Rattle.model.proofs.Tables.{all, length-write, set-each, write-each, at-lt, write-same, set-keeps, write-keeps, write-other, at-inj, isLocation-nz, elem-not, elem-tail, elem-head, zeros, length-writeAll}
+use Rattle.model.proofs.Tables.{all, length-write, set-each, write-each, slotPlace-lt, write-same, set-keeps, write-keeps, write-other, slotPlace-inj, isLocation-nz, elem-not, elem-tail, elem-head, zeros, length-writeAll}
 use Rattle.model.proofs.Verdicts.{then-ok, test-ok, first-ok}
 use Rattle.histories.specs.Invariant.{Good, Located, Inv}
 
 -- a row is added
 add-row : (cap : ℕ) (im lo sm ow : List ℕ) (i l : ℕ) → Good cap im lo sm ow [] → 0 < i → i < length lo → isLocation cap l ≡ true
-    → getD lo i 0 ≡ 0 → getD sm (at cap l) 0 ≡ 0 → Good cap (set im i 1) (set lo i l) (write cap l 1 sm) (write cap l i ow) []
+    → getD lo i 0 ≡ 0 → getD sm (slotPlace cap l) 0 ≡ 0 → Good cap (set im i 1) (set lo i l) (write cap l 1 sm) (write cap l i ow) []
 add-row cap im lo sm ow i l g pos hi vl zi zl = record {
   small = g .small;
   same-ids = length-set lo i l ∙ g .same-ids ∙ sym (length-set im i 1);
@@ -34,14 +34,14 @@ add-row cap im lo sm ow i l g pos hi vl zi zl = record {
   id-mark = set-each (λ x. x ≤ 2) im i 1 (omega arith) (g .id-mark);
   slot-mark = write-each (λ x. x ≤ 2) cap l 1 sm (omega arith) (g .slot-mark);
   located = λ j. loc j (ℕ-discrete j i);
-  accounted = λ k v e. acc k v e (ℕ-discrete (at cap k) (at cap l));
+  accounted = λ k v e. acc k v e (ℕ-discrete (slotPlace cap k) (slotPlace cap l));
   keeps = tt;
 }
   where
-    in-sm : at cap l < length sm
-    in-sm = rw (g .full) (at-lt cap l vl)
+    in-sm : slotPlace cap l < length sm
+    in-sm = rw (g .full) (slotPlace-lt cap l vl)
 
-    in-ow : at cap l < length ow
+    in-ow : slotPlace cap l < length ow
     in-ow = rw (g .same-slots) in-sm
 
     loc : (j : ℕ) → Dec (j ≡ i) → getD (set lo i l) j 0 ≢ 0 → Located cap (set im i 1) (write cap l 1 sm) (write cap l i ow) j (getD (set lo i l) j 0)
@@ -60,18 +60,18 @@ add-row cap im lo sm ow i l g pos hi vl zi zl = record {
           id-held = set-keeps im i 1 j (L .id-held);
           range = L .range;
           slot-held = write-keeps cap l 1 sm _ (L .slot-held);
-          owner = write-other cap l i ow _ (λ z e. let y : getD sm (at cap l) 0 ≡ 1 = rw e at (L .slot-held) in omega arith) ∙ L .owner;
+          owner = write-other cap l i ow _ (λ z e. let y : getD sm (slotPlace cap l) 0 ≡ 1 = rw e at (L .slot-held) in omega arith) ∙ L .owner;
         })
 
-    acc : (k : ℕ) → isLocation cap k ≡ true → getD (write cap l 1 sm) (at cap k) 0 ≡ 1 → Dec (at cap k ≡ at cap l)
-        → (getD (set lo i l) (getD (write cap l i ow) (at cap k) 0) 0 ≡ k) ⊎ (false ≡ true)
+    acc : (k : ℕ) → isLocation cap k ≡ true → getD (write cap l 1 sm) (slotPlace cap k) 0 ≡ 1 → Dec (slotPlace cap k ≡ slotPlace cap l)
+        → (getD (set lo i l) (getD (write cap l i ow) (slotPlace cap k) 0) 0 ≡ k) ⊎ (false ≡ true)
     acc k v e (yes s) =
-        let q : k ≡ l = at-inj cap k l v vl s in
+        let q : k ≡ l = slotPlace-inj cap k l v vl s in
         inl (rw q (rw (write-same cap l i ow vl in-ow) (getD-set-same lo i l 0 hi)))
-    acc k v e (no ne) = rw (write-other cap l i ow (at cap k) (λ z. ne)) (go (g .accounted k v (sym (write-other cap l 1 sm (at cap k) (λ z. ne)) ∙ e)))
+    acc k v e (no ne) = rw (write-other cap l i ow (slotPlace cap k) (λ z. ne)) (go (g .accounted k v (sym (write-other cap l 1 sm (slotPlace cap k) (λ z. ne)) ∙ e)))
       where
         own : ℕ
-        own = getD ow (at cap k) 0
+        own = getD ow (slotPlace cap k) 0
 
         go : (getD lo own 0 ≡ k) ⊎ (false ≡ true) → (getD (set lo i l) own 0 ≡ k) ⊎ (false ≡ true)
         go (inl q) = inl (getD-set-other lo i own l 0 (λ p. isLocation-nz cap k v (sym q ∙ rw p zi)) ∙ q)
@@ -85,7 +85,7 @@ Apart s (r ∷ rs) =
 
 abbrev Untouched : ℕ → List ℕ → List ℕ → List Row → Type 0
 Untouched cap lo sm [] = Unit
-Untouched cap lo sm (r ∷ rs) = (getD lo (r .0) 0 ≡ 0) × (getD sm (at cap (r .1)) 0 ≡ 0) × Untouched cap lo sm rs
+Untouched cap lo sm (r ∷ rs) = (getD lo (r .0) 0 ≡ 0) × (getD sm (slotPlace cap (r .1)) 0 ≡ 0) × Untouched cap lo sm rs
 
 -- a row leaves the later rows untouched
 untouch : (s : Store) (lo sm : List ℕ) (i l : ℕ) (rs : List Row) → isLocation (s .slots) l ≡ true → Apart s rs
@@ -96,7 +96,7 @@ untouch s lo sm i l (r ∷ rs) v a ni nl u =
     let p = elem-not i (r .0) (idsOf rs) ni in
     let q = elem-not l (r .1) (locationsOf rs) nl in (
       getD-set-other lo i (r .0) l 0 (λ e. p .0 (sym e)) ∙ u .0,
-      write-other (s .slots) l 1 sm (at (s .slots) (r .1)) (λ n e. q .0 (sym (at-inj (s .slots) (r .1) l (a .1) v e))) ∙ u .1,
+      write-other (s .slots) l 1 sm (slotPlace (s .slots) (r .1)) (λ n e. q .0 (sym (slotPlace-inj (s .slots) (r .1) l (a .1) v e))) ∙ u .1,
       untouch s lo sm i l rs v (a .4) (p .1) (q .1) (u .2),
     )
 
@@ -150,7 +150,7 @@ rows-apart s is ls i (r ∷ rs) e =
 
 zero-rows : (cap n m : ℕ) (rs : List Row) → Untouched cap (replicate n 0) (replicate m 0) rs
 zero-rows cap n m [] = tt
-zero-rows cap n m (r ∷ rs) = (zeros n (r .0), zeros m (at cap (r .1)), zero-rows cap n m rs)
+zero-rows cap n m (r ∷ rs) = (zeros n (r .0), zeros m (slotPlace cap (r .1)), zero-rows cap n m rs)
 
 pub length-heldBy : (rs : List Row) (t : List ℕ) → length (heldBy rs t) ≡ length t
 length-heldBy [] t = refl
@@ -184,7 +184,7 @@ zero-good n m c = record {
   id-mark = λ i. rw (zeros n i) (omega arith);
   slot-mark = λ p. rw (zeros (slabs * m) p) (omega arith);
   located = λ i h. absurd (h (zeros n i));
-  accounted = λ l v e. let z = zeros (slabs * m) (at m l) in absurd (omega arith);
+  accounted = λ l v e. let z = zeros (slabs * m) (slotPlace m l) in absurd (omega arith);
   keeps = tt;
 }
 

@@ -10,7 +10,7 @@ use lib.ListN.{getD}
 use Rattle.refusal.proofs.Tests.{clash}
 use Rattle.model.specs.Step.{state}
 use Rattle.model.specs.Store.{Row, Store}
-use Rattle.model.specs.Tables.{at, elem, idsOf, locationOf}
+use Rattle.model.specs.Tables.{slotPlace, elem, idsOf, locationOf}
 use Rattle.model.proofs.Tables.{elem-cases}
 use Rattle.histories.specs.Invariant.{Inv}
 use Rattle.histories.specs.Statements.{Distinct, none, more, AtRest, LiveRows, RowsExist}

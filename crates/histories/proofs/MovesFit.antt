@@ -19,7 +19,7 @@ use Rattle.fragmentation.proofs.LawsCutoff.{cutoff-le}
 use Rattle.model.specs.Defrag.{movesIn, movable, consIf, slabMoves, movesFrom, allMoves}
 use Rattle.model.specs.Rebuild.{heldBy}
 use Rattle.model.specs.Store.{Store, Row}
-use Rattle.model.specs.Tables.{inIds, locationOf, at, capacities, slabTip, live, elem, idsOf}
+use Rattle.model.specs.Tables.{inIds, locationOf, slotPlace, capacities, slabTip, live, elem, idsOf}
 use Rattle.model.proofs.Granted.{capacities-range}
 use Rattle.model.proofs.Tables.{elem-cases, zeros}
 use Rattle.histories.specs.Statements.{MovesFit}

@@ -19,11 +19,11 @@ use Rattle.id_allocator.specs.Written.{opened}
 use Rattle.model.specs.Rebuild.{rows, heldBy, locatedBy, rebuilt, freshStore}
 use Rattle.model.specs.Step.{effect, next, refusal, unless, after, state}
 use Rattle.model.specs.Store.{Store, Call, newId, release, offer, commit, abandon, fresh, rebuild, lookup, counters, defrag, truncation, report, Row}
-use Rattle.model.specs.Tables.{kept, at, elem, idsOf, locationsOf, sized, heldId, locationOf, live, inIds, writeAll, pairs}
+use Rattle.model.specs.Tables.{kept, slotPlace, elem, idsOf, locationsOf, sized, heldId, locationOf, live, inIds, writeAll, pairs}
 use Rattle.model.specs.Verdict.{ok, Verdict, refuse, _⨾_, test}
 use Rattle.model.proofs.Answered.{next-granted}
 use Rattle.model.proofs.Rows.{asLong-rows, rowsOf-rows}
-use Rattle.model.proofs.Tables.{all, elem-head, elem-tail, elem-cases, contradiction, elem-not, set-keeps, nz-lt, one-nz, zeros, isLocation-packing, at-packing, isLocation-nz, writeAll-same, at-lt, writeAll-other, length-writeAll}
+use Rattle.model.proofs.Tables.{all, elem-head, elem-tail, elem-cases, contradiction, elem-not, set-keeps, nz-lt, one-nz, zeros, isLocation-packing, slotPlace-packing, isLocation-nz, writeAll-same, slotPlace-lt, writeAll-other, length-writeAll}
 use Rattle.histories.specs.Invariant.{Inv, Located}
 use Rattle.histories.specs.Statements.{Distinct, none, more, AtRest, LiveRows, RebuildAgrees, answers}
 use Rattle.histories.proofs.Kept.{rows-frame, Sizes, sizes-of}
@@ -211,7 +211,7 @@ module _ (s : Store) (v : Inv s) (a : AtRest s) (rs : List Row) (live : LiveRows
           let q = loc-mem (r .1) qs m in
           let L₁ = row-located r (h r (List·Memᴰ·head refl)) in
           let L₂ = row-located (q .0) (h (q .0) (List·Memᴰ·tail (q .1))) in
-          let same : q .0 .0 ≡ r .0 = sym (L₂ .owner) ∙ ap (λ x. getD (s .owners) (at (s .slots) x) 0) (q .2) ∙ L₁ .owner in
+          let same : q .0 .0 ≡ r .0 = sym (L₂ .owner) ∙ ap (λ x. getD (s .owners) (slotPlace (s .slots) x) 0) (q .2) ∙ L₁ .owner in
           contradiction (mem-id (q .0) qs (q .1)) (rw same e)
 
   live-apart : Apart s rs
@@ -259,8 +259,8 @@ module _ (s : Store) (v : Inv s) (a : AtRest s) (rs : List Row) (live : LiveRows
       vl : isLocation cap l ≡ true
       vl = isLocation-packing cap (p / cap) (p % cap) (v .good .small) (div-lt-iff-lt-mul pos .1 h) slot
 
-      here : at cap l ≡ p
-      here = at-packing cap (p / cap) (p % cap) (v .good .small) slot ∙ div-add-mod' p cap
+      here : slotPlace cap l ≡ p
+      here = slotPlace-packing cap (p / cap) (p % cap) (v .good .small) slot ∙ div-add-mod' p cap
 
       none-kept : kept s ≡ []
       none-kept = ap (λ n. pairs (pred n) (s .batch .keptIds) (s .batch .keptLocations)) (a .closed)
@@ -268,13 +268,13 @@ module _ (s : Store) (v : Inv s) (a : AtRest s) (rs : List Row) (live : LiveRows
       go : Dec (getD (s .slotMarks) p 0 ≡ 1) → getD (writeAll cap (locationsOf rs) 1 (replicate (slabs * cap) 0)) p 0 ≡ getD (s .slotMarks) p 0
       go (yes e) = rw e (owned (v .good .accounted l vl (rw here e)))
         where
-          owned : (locationOf s (getD (s .owners) (at cap l) 0) ≡ l) ⊎ (elem l (locationsOf (kept s)) ≡ true) → getD
+          owned : (locationOf s (getD (s .owners) (slotPlace cap l) 0) ≡ l) ⊎ (elem l (locationsOf (kept s)) ≡ true) → getD
               (writeAll cap (locationsOf rs) 1 (replicate (slabs * cap) 0)) p 0 ≡ 1
           owned (inl q) =
-              let o = getD (s .owners) (at cap l) 0 in
+              let o = getD (s .owners) (slotPlace cap l) 0 in
               let m : elem l (locationsOf rs) ≡ true =
               rw q at (mem-loc (o, locationOf s o) rs (live .every o (located-held s v a o (rw q (isLocation-nz cap l vl))))) in
-              rw here at (writeAll-same cap (locationsOf rs) 1 (replicate (slabs * cap) 0) l m vl (rw (length-replicate {A = ℕ} (slabs * cap) 0) (at-lt cap l vl)))
+              rw here at (writeAll-same cap (locationsOf rs) 1 (replicate (slabs * cap) 0) l m vl (rw (length-replicate {A = ℕ} (slabs * cap) 0) (slotPlace-lt cap l vl)))
           owned (inr q) = contradiction q (ap (λ ks. elem l (locationsOf ks)) none-kept)
       go (no n) =
           let n₂ : getD (s .slotMarks) p 0 ≢ 2 = a .no-slot p in
@@ -282,7 +282,7 @@ module _ (s : Store) (v : Inv s) (a : AtRest s) (rs : List Row) (live : LiveRows
           let z : getD (s .slotMarks) p 0 ≡ 0 = omega arith in
           writeAll-other cap (locationsOf rs) 1 (replicate (slabs * cap) 0) p (λ k m nz e.
           let q = loc-mem k rs m in
-          n (ap (λ x. getD (s .slotMarks) x 0) (e ∙ ap (at cap) (sym (q .2))) ∙ row-located (q .0) (q .1) .slot-held))
+          n (ap (λ x. getD (s .slotMarks) x 0) (e ∙ ap (slotPlace cap) (sym (q .2))) ∙ row-located (q .0) (q .1) .slot-held))
           ∙ zeros (slabs * cap) p ∙ sym z
 
   rebuilt-same : Same (rebuilt (s .ids) (s .slots) rs) s

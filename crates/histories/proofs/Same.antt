@@ -18,7 +18,7 @@ use Rattle.model.specs.Ids.{nextId}
 use Rattle.model.specs.Rebuild.{rows, rowsOf}
 use Rattle.model.specs.Step.{shape, noneOpen, oneOpen, refusal, asLong, slabRefusal}
 use Rattle.model.specs.Store.{Store, Update, Row, commit, abandon, newId, release, offer, fresh, rebuild, lookup, defrag, counters, truncation}
-use Rattle.model.specs.Tables.{at, kept, badLocation, locationOf, badAt, idMarksFit, locationsFit, slotMarksFit, ownersFit, batchFits, talliesFit, tablesFit, isOpen, inIds, heldId, elem}
+use Rattle.model.specs.Tables.{slotPlace, kept, badLocation, locationOf, badAt, idMarksFit, locationsFit, slotMarksFit, ownersFit, batchFits, talliesFit, tablesFit, isOpen, inIds, heldId, elem}
 use Rattle.model.specs.Truncation.{highMark, isTarget}
 use Rattle.model.specs.Verdict.{test, _⨾_}
 use Rattle.model.proofs.Tables.{all}

@@ -17,8 +17,8 @@ use Rattle.fragmentation.specs.Cutoff.{cutoff}
 use Rattle.fragmentation.proofs.LawsCutoff.{cutoff-le}
 use Rattle.model.specs.Defrag.{movesIn, movable, consIf, slabMoves, movesFrom, allMoves}
 use Rattle.model.specs.Store.{Store, Row}
-use Rattle.model.specs.Tables.{at, locationOf, inIds, part, live, slabTip}
-use Rattle.model.proofs.Tables.{at-packing, part-at}
+use Rattle.model.specs.Tables.{slotPlace, locationOf, inIds, part, live, slabTip}
+use Rattle.model.proofs.Tables.{slotPlace-packing, part-at}
 use Rattle.histories.specs.Invariant.{Inv, Located}
 use Rattle.histories.proofs.Kept.{slabTip-le, sizes-of}
 use Rattle.histories.proofs.Same.{Same, loc-same, inIds-same, same-sym}
@@ -36,7 +36,7 @@ at-slot : (s : Store) → Inv s → (k j o : ℕ) → j < s .slots → locationO
 unfolding own
 at-slot s v k j o h e =
     let L : Located (s .slots) (s .idMarks) (s .slotMarks) (s .owners) o (packing k j) = rw e at (v .good .located o (rw e (omega arith))) in
-    let a = at-packing (s .slots) k j (v .good .small) h in
+    let a = slotPlace-packing (s .slots) k j (v .good .small) h in
     (rw a at (L .slot-held), rw a at (L .owner))
 
 -- no slot moves from a slab that is free from j on

@@ -21,10 +21,10 @@ use Rattle.model.specs.Batches.{asked, room, noClass, updates, idOf, place, spo
 use Rattle.model.specs.Ids.{nextId}
 use Rattle.model.specs.Step.{answer, grant, refusal, answerBy}
 use Rattle.model.specs.Store.{free, Update, Store, placed, put, offer, newId, gave, refused}
-use Rattle.model.specs.Tables.{at, part, write}
+use Rattle.model.specs.Tables.{slotPlace, part, write}
 use Rattle.model.specs.Verdict.{ok, test, Verdict, refuse, _⨾_}
 use Rattle.model.proofs.Granted.{offer-granted, capacities-range, new-id-granted}
-use Rattle.model.proofs.Tables.{write-set, isLocation-packing, at-packing, part-here, part-there}
+use Rattle.model.proofs.Tables.{write-set, isLocation-packing, slotPlace-packing, part-here, part-there}
 use Rattle.model.proofs.Verdicts.{then-ok, test-ok, first-ok}
 use Rattle.histories.specs.Statements.{seen, InOrder, NewSlots, SmallestFree, NewIds, NoNewId}
 
@@ -98,7 +98,7 @@ all-placed cap t (put i n ∷ us) c k h = go (λ t′ q. all-placed cap t′ us 
 
     wrote : write cap (spotFor cap t (put i n)) 1 t ≡ set t (s * cap + j) 1
     wrote = ap (λ l. write cap l 1 t) spot-there ∙ write-set cap (packing s j) 1 t (isLocation-packing cap s j c s78 j-lt) ∙ ap (λ x. set t x 1)
-        (at-packing cap s j c j-lt)
+        (slotPlace-packing cap s j c j-lt)
 
     left : Enough cap (set t (s * cap + j) 1) us
     left x b = each (ℕ-discrete x s)

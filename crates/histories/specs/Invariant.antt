@@ -7,20 +7,20 @@ use Prim.Native.Nat.{ℕ, _*_, _≤_, _<_}
 use lib.ListN.{length, getD}
 use Rattle.address.specs.Address.{slabs, isLocation}
 use Rattle.model.specs.Store.{Store, Row}
-use Rattle.model.specs.Tables.{at, sized, kept, elem, idsOf, locationsOf}
+use Rattle.model.specs.Tables.{slotPlace, sized, kept, elem, idsOf, locationsOf}
 
 -- id i is held, above 0, and owns the slot of its location l, which is held and in range
 pub record Located (cap : ℕ) (im sm ow : List ℕ) (i l : ℕ) : Type 0 where
   pub pos : 0 < i
   pub id-held : getD im i 0 ≡ 1
   pub range : isLocation cap l ≡ true
-  pub slot-held : getD sm (at cap l) 0 ≡ 1
-  pub owner : getD ow (at cap l) 0 ≡ i
+  pub slot-held : getD sm (slotPlace cap l) 0 ≡ 1
+  pub owner : getD ow (slotPlace cap l) 0 ≡ i
 
 -- the slot of l is held, in range, and no id's location
-pub record Taken (cap : ℕ) (lo sm : List ℕ) (l : ℕ) : Type 0 where
+pub record Reserved (cap : ℕ) (lo sm : List ℕ) (l : ℕ) : Type 0 where
   pub range : isLocation cap l ≡ true
-  pub slot-held : getD sm (at cap l) 0 ≡ 1
+  pub slot-held : getD sm (slotPlace cap l) 0 ≡ 1
   pub nobody : (j : ℕ) → getD lo j 0 ≢ l
 
 -- a kept update, and those after it: its id is held, and neither id nor new slot comes again
@@ -29,7 +29,7 @@ pub record KeptRow (cap : ℕ) (im lo sm : List ℕ) (r : Row) (rs : List Row) :
   pub id-held : getD im (r .0) 0 ≡ 1
   pub new-id : elem (r .0) (idsOf rs) ≡ false
   pub new-loc : r .1 ≢ 0 → elem (r .1) (locationsOf rs) ≡ false
-  pub taken : r .1 ≢ 0 → Taken cap lo sm (r .1)
+  pub reserved : r .1 ≢ 0 → Reserved cap lo sm (r .1)
 
 abbrev pub KeptRows : ℕ → List ℕ → List ℕ → List ℕ → List Row → Type 0
 KeptRows cap im lo sm [] = Unit
@@ -44,8 +44,8 @@ pub record Good (cap : ℕ) (im lo sm ow : List ℕ) (ks : List Row) : Type 0 wh
   pub id-mark : (i : ℕ) → getD im i 0 ≤ 2
   pub slot-mark : (p : ℕ) → getD sm p 0 ≤ 2
   pub located : (i : ℕ) → getD lo i 0 ≢ 0 → Located cap im sm ow i (getD lo i 0)
-  pub accounted : (l : ℕ) → isLocation cap l ≡ true → getD sm (at cap l) 0 ≡ 1
-      → (getD lo (getD ow (at cap l) 0) 0 ≡ l) ⊎ (elem l (locationsOf ks) ≡ true)
+  pub accounted : (l : ℕ) → isLocation cap l ≡ true → getD sm (slotPlace cap l) 0 ≡ 1
+      → (getD lo (getD ow (slotPlace cap l) 0) 0 ≡ l) ⊎ (elem l (locationsOf ks) ≡ true)
   pub keeps : KeptRows cap im lo sm ks
 
 pub record Inv (s : Store) : Type 0 where

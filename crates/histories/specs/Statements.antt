@@ -56,22 +56,22 @@ abbrev pub inSlab : ℕ → ℕ → Bool
 inSlab k l = eqb (l / unit) (suc k)
 
 -- held plus pending
-abbrev pub taken : List ℕ → ℕ
-taken t = countIf isTaken t
+abbrev pub heldOrPending : List ℕ → ℕ
+heldOrPending t = countIf isTaken t
 
 -- granted minus freed plus rows rebuilt is held plus pending, modulo 2^64; said without a minus
 pub record Tally (s : Store) (rs : List Row) : Type 0 where
-  pub of-ids : (getD (s .tallies .granted) 0 0 + length rs) % 2 ^ 64 ≡ (getD (s .tallies .freed) 0 0 + taken (s .idMarks)) % 2 ^ 64
+  pub of-ids : (getD (s .tallies .granted) 0 0 + length rs) % 2 ^ 64 ≡ (getD (s .tallies .freed) 0 0 + heldOrPending (s .idMarks)) % 2 ^ 64
   pub of-slab : (k : ℕ) → k < slabs →
       (getD (s .tallies .granted) (suc k) 0 + countIf (inSlab k) (locationsOf rs)) % 2 ^ 64
-      ≡ (getD (s .tallies .freed) (suc k) 0 + taken (part (s .slots) (s .slotMarks) k)) % 2 ^ 64
+      ≡ (getD (s .tallies .freed) (suc k) 0 + heldOrPending (part (s .slots) (s .slotMarks) k)) % 2 ^ 64
 
 abbrev pub Tallied : Type 0
 Tallied = (n m : ℕ) → capacities n m ≡ true → (h : List Call) → Tally (state n m h) (rowsSince (freshStore n m) [] h)
 
 -- held plus pending plus free below tip is tip, whatever the marks and the used word
 abbrev pub BelowTip : Type 0
-BelowTip = (t : List ℕ) (used : ℕ) → 1 ≤ length t → taken t + countIf isFree (take (tip t used) t) ≡ tip t used
+BelowTip = (t : List ℕ) (used : ℕ) → 1 ≤ length t → heldOrPending t + countIf isFree (take (tip t used) t) ≡ tip t used
 
 -- ---- 3. the smallest free number (Smallest.new-ids, Smallest.no-new-id, Smallest.new-slots), whatever the tables hold
 

@@ -18,7 +18,7 @@ use Rattle.id_allocator.specs.Counted.{counted, settle}
 use Rattle.marks.specs.Marks.{firstFree}
 use Rattle.id_allocator.proofs.LawsCounted.{counted-first-pending, counted-pending}
 use Rattle.model.specs.Batches.{spot, spotFor, place, idOf, takenBy, afterOffer, afterAbandon, applyRow, applyRows, afterCommit}
-use Rattle.model.specs.Memory.{word, read, talliesOf, wordAt, grantedWords, putWord, usedWords, batchOf, Memory, freedWords, waitingWords, hintWords}
+use Rattle.model.specs.Memory.{getWord, read, talliesOf, wordAt, grantedWords, putWord, usedWords, batchOf, Memory, freedWords, waitingWords, hintWords}
 use Rattle.model.specs.MemoryAfter.{Slots, takeSlot, tookSlot, takeSlots, keptWords, slotsOf, memoryOffer, giveSlot, gaveSlot, giveSlots, memoryAbandon, pendSlot, pendedSlot, readyBy, pendId, withIds, readyMarks, readyWords, pendOld, commitRow, commitAll, memoryCommit}
 use Rattle.model.specs.Store.{Update, put, free, talliesFrom, Tallies, batchFrom, storeOf, withIdMarks, withSlotMarks, Row, withOwners, withLocations, withBatch}
 use Rattle.model.specs.Tables.{write, part, writeAll, bumpEach, bump, useEach, kept, capacities, shut, locationsOf}
@@ -275,21 +275,21 @@ pend-tallies cap s l = go (isLocation cap l) refl
     go : (b : Bool) → isLocation cap l ≡ b → talliesOf ((cond b (pendedSlot cap s (l / unit) (l % unit)) s) .words) ≡ talliesOf (s .words)
     go true e =
         let v = isLocation-says cap l e in
-        ready (pred (l / unit)) (word (s .words) waitingWords (suc (pred (l / unit)))) (omega (arith, v .low, v .high))
+        ready (pred (l / unit)) (getWord (s .words) waitingWords (suc (pred (l / unit)))) (omega (arith, v .low, v .high))
     go false e = refl
 
 -- an id becomes pending
 pend-id : (m : Memory) (i : ℕ) → length (m .tallies) ≡ 473 → read (pendId m i) ≡ withIdMarks (read m) (set (read m .idMarks) i 2)
 unfolding read
-pend-id m i lg = go (word g waitingWords 0) refl
+pend-id m i lg = go (getWord g waitingWords 0) refl
   where
     g : List ℕ
     g = m .tallies
 
     h : ℕ
-    h = word g hintWords 0
+    h = getWord g hintWords 0
 
-    go : (w : ℕ) → word g waitingWords 0 ≡ w → read (withIds m (set (readyMarks w (m .idMarks)) i 2) (readyWords g 0 w)) ≡ withIdMarks (read m)
+    go : (w : ℕ) → getWord g waitingWords 0 ≡ w → read (withIds m (set (readyMarks w (m .idMarks)) i 2) (readyWords g 0 w)) ≡ withIdMarks (read m)
         (set (read m .idMarks) i 2)
     go zero e = λ j. storeOf (m .ids) (m .slots)
         (((λ q. counted (word-other g waitingWords 0 1 hintWords 0 (omega arith) q) (word-same g waitingWords 0 1 (rw lg (omega arith)) q)
@@ -302,7 +302,7 @@ pend-id m i lg = go (word g waitingWords 0) refl
         (m .locations) (read m .slotMarks) (m .owners) (batchOf (m .batch)) (talliesOf g)
 
 pend-id-fits : (m : Memory) (i : ℕ) → Fits (m .slots) (slotsOf m) → Fits (m .slots) (slotsOf (pendId m i))
-pend-id-fits m i f = record { low = f .low; high = f .high; marks-long = f .marks-long; words-long = go (word (m .tallies) waitingWords 0) ∙ f .words-long }
+pend-id-fits m i f = record { low = f .low; high = f .high; marks-long = f .marks-long; words-long = go (getWord (m .tallies) waitingWords 0) ∙ f .words-long }
   where
     go : (w : ℕ) → length (readyWords (m .tallies) 0 w) ≡ length (m .tallies)
     go zero = length-set (m .tallies) (wordAt waitingWords 0) 1

@@ -15,7 +15,7 @@ use Rattle.marks.specs.Marks.{hold, isFree}
 use Rattle.id_allocator.proofs.LawsCounted.{counted-take-id, counted-smallestFree, settle-busy}
 use Rattle.id_allocator.proofs.LawsHinted.{hinted-zero}
 use Rattle.model.specs.Ids.{nextId, afterNewId}
-use Rattle.model.specs.Memory.{Memory, read, word, wordAt, grantedWords, hintWords, putWord, usedWords, countedBy, waitingWords, talliesOf, countedSlabs, batchOf, highWords}
+use Rattle.model.specs.Memory.{Memory, read, getWord, wordAt, grantedWords, hintWords, putWord, usedWords, countedBy, waitingWords, talliesOf, countedSlabs, batchOf, highWords}
 use Rattle.model.specs.MemoryAfter.{newIdWords, memoryNewId, withWords, raiseWord, useSlots, memoryRebuilt}
 use Rattle.model.specs.Rebuild.{heldBy, rebuilt, locatedBy, ownedBy}
 use Rattle.model.specs.Store.{talliesFrom, Tallies, storeOf, Row, batchFrom}
@@ -40,7 +40,7 @@ module _ (m : Memory) (more : ℕ) (lg : length (m .tallies) ≡ 473) where
   abbrev g′ : List ℕ
   g′ = newIdWords g n more
 
-  words-else : (kind a : ℕ) → 3 ≤ kind → kind ≤ 4 → wordAt kind a ≢ wordAt hintWords 0 → word g′ kind a ≡ word g kind a
+  words-else : (kind a : ℕ) → 3 ≤ kind → kind ≤ 4 → wordAt kind a ≢ wordAt hintWords 0 → getWord g′ kind a ≡ getWord g kind a
   words-else kind a low high e =
       word-other (putWord g₁ usedWords 0 1) hintWords 0 (n + 1) kind a e
       ∙ word-other g₁ usedWords 0 1 kind a (omega arith) ∙ word-bump g grantedWords 0 more kind a (omega arith)
@@ -51,7 +51,7 @@ module _ (m : Memory) (more : ℕ) (lg : length (m .tallies) ≡ 473) where
   ids-after =
       (λ i. counted (word-same (putWord g₁ usedWords 0 1) hintWords 0 (n + 1) (simp (length-set, length-bump, lg) (omega arith)) i)
       (words-else waitingWords 0 (omega arith) (omega arith) (omega arith) i) (set (set (m .idMarks) n 1) 0 (hold (getD (m .idMarks) 0 0))))
-      ∙ counted-take-id (word g hintWords 0) (word g waitingWords 0) (m .idMarks) n (counted-smallestFree (word g hintWords 0) (word g waitingWords 0) (m .idMarks) 1)
+      ∙ counted-take-id (getWord g hintWords 0) (getWord g waitingWords 0) (m .idMarks) n (counted-smallestFree (getWord g hintWords 0) (getWord g waitingWords 0) (m .idMarks) 1)
 
   tallies-after : talliesOf g′ ≡ talliesFrom (bump (talliesOf g .granted) 0 more) (talliesOf g .freed) (set (talliesOf g .used) 0 1) (talliesOf g .high)
   tallies-after =
@@ -74,7 +74,7 @@ pub high-words : (m : Memory) (k v : ℕ) → read (withWords m (putWord (m .tal
 unfolding read
 high-words m k v =
     let g = m .tallies in
-    let else : (kind a : ℕ) → kind ≤ 4 → a < 79 → word (putWord g highWords k v) kind a ≡ word g kind a =
+    let else : (kind a : ℕ) → kind ≤ 4 → a < 79 → getWord (putWord g highWords k v) kind a ≡ getWord g kind a =
     λ kind a h b. word-other g highWords k v kind a (omega arith) in
     λ i. storeOf (m .ids) (m .slots)
     (counted (else hintWords 0 (omega arith) (omega arith) i) (else waitingWords 0 (omega arith) (omega arith) i) (m .idMarks)) (m .locations)
@@ -87,7 +87,7 @@ pub read-raise : (m : Memory) (k t : ℕ) → read (withWords m (raiseWord (m .t
 unfolding read
 read-raise m k zero = refl
 read-raise m k (suc top) =
-    high-words m k (max (word (m .tallies) highWords k) top)
+    high-words m k (max (getWord (m .tallies) highWords k) top)
     ∙ ap (λ x. withHigh (read m) (set (read m .tallies .high) k (max x top))) (sym (getD-drop 395 (m .tallies) k 0))
 
 -- ---- rebuild: marks that are free or held count as they stand where no word is set
@@ -104,7 +104,7 @@ unfolding counted quiet
 plain ms h = ap (map settle) (hinted-zero ms) ∙ map-settle ms h
 
 plain-slabs : (cap : ℕ) (g : List ℕ) (n k : ℕ) (t : List ℕ) → ((p : ℕ) → getD t p 0 ≤ 1)
-    → ((a : ℕ) → a < k + n → (word g hintWords (suc a) ≡ 0) × (word g waitingWords (suc a) ≡ 0)) → countedSlabs cap g n k t ≡ t
+    → ((a : ℕ) → a < k + n → (getWord g hintWords (suc a) ≡ 0) × (getWord g waitingWords (suc a) ≡ 0)) → countedSlabs cap g n k t ≡ t
 unfolding countedSlabs
 plain-slabs cap g zero k t h w = refl
 plain-slabs cap g (suc n) k t h w =
@@ -117,12 +117,12 @@ heldBy-le [] t h = h
 heldBy-le (r ∷ rs) t h = heldBy-le rs (set t (r .0) 1) (set-each (λ x. x ≤ 1) t (r .0) 1 (le-refl 1) h)
 
 -- the used words of a list of locations
-useSlots-word : (cap : ℕ) (g ls : List ℕ) (kind a : ℕ) → 3 ≤ kind → kind ≤ 4 → a < 79 → word (useSlots cap g ls) kind a ≡ word g kind a
+useSlots-word : (cap : ℕ) (g ls : List ℕ) (kind a : ℕ) → 3 ≤ kind → kind ≤ 4 → a < 79 → getWord (useSlots cap g ls) kind a ≡ getWord g kind a
 useSlots-word cap g [] kind a low high h = refl
 useSlots-word cap g (l ∷ ls) kind a low high h =
     useSlots-word cap (cond (isLocation cap l) (putWord g usedWords (l / unit) 1) g) ls kind a low high h ∙ go (isLocation cap l) refl
   where
-    go : (b : Bool) → isLocation cap l ≡ b → word (cond b (putWord g usedWords (l / unit) 1) g) kind a ≡ word g kind a
+    go : (b : Bool) → isLocation cap l ≡ b → getWord (cond b (putWord g usedWords (l / unit) 1) g) kind a ≡ getWord g kind a
     go true e = let v = isLocation-says cap l e in word-other g usedWords (l / unit) 1 kind a (omega (arith, v .high))
     go false e = refl
 
@@ -157,7 +157,7 @@ read-rebuilt n m rs = λ i. storeOf n m
     G : List ℕ
     G = useSlots m g (locationsOf rs)
 
-    none : (kind a : ℕ) → 3 ≤ kind → kind ≤ 4 → a < 79 → word G kind a ≡ 0
+    none : (kind a : ℕ) → 3 ≤ kind → kind ≤ 4 → a < 79 → getWord G kind a ≡ 0
     none kind a low high h =
         useSlots-word m g (locationsOf rs) kind a low high h
         ∙ word-other (replicate 473 0) usedWords 0 (min 1 (length rs)) kind a (omega arith) ∙ zeros 473 (wordAt kind a)

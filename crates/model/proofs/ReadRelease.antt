@@ -13,7 +13,7 @@ use Rattle.marks.specs.Marks.{countIf, isPending, letGo}
 use Rattle.id_allocator.proofs.LawsCounted.{counted-none-pending}
 use Rattle.id_allocator.proofs.LawsHinted.{hinted-length}
 use Rattle.model.specs.Ids.{bumpPending, afterRelease}
-use Rattle.model.specs.Memory.{word, putWord, hintWords, waitingWords, freedWords, wordAt, talliesOf, countedBy, read, Memory, batchOf, countedSlabs}
+use Rattle.model.specs.Memory.{getWord, putWord, hintWords, waitingWords, freedWords, wordAt, talliesOf, countedBy, read, Memory, batchOf, countedSlabs}
 use Rattle.model.specs.MemoryAfter.{releasedWords, Slots, releaseSlab, releasedMarks, releaseSlabs, slotsOf, memoryRelease, releaseIds}
 use Rattle.model.specs.Store.{Tallies, talliesFrom, storeOf}
 use Rattle.model.specs.Tables.{bump, part}
@@ -29,26 +29,26 @@ module _ (g : List ℕ) (a : ℕ) (ms : List ℕ) (ha : a < 79) where
   released-long zero = refl
   released-long (suc w) = simp (length-set, length-bump)
 
-  released-else : (w kind b : ℕ) → 3 ≤ kind → kind ≤ 4 → b < 79 → b ≢ a → word (releasedWords g a w ms) kind b ≡ word g kind b
+  released-else : (w kind b : ℕ) → 3 ≤ kind → kind ≤ 4 → b < 79 → b ≢ a → getWord (releasedWords g a w ms) kind b ≡ getWord g kind b
   released-else zero kind b low high hb n = refl
   released-else (suc w) kind b low high hb n =
       word-other (putWord g₁ hintWords a 0) waitingWords a 0 kind b (omega arith) ∙ word-other g₁ hintWords a 0 kind b (omega arith)
-      ∙ word-bump g freedWords a (countIf isPending (hinted (word g hintWords a) ms)) kind b (omega arith)
+      ∙ word-bump g freedWords a (countIf isPending (hinted (getWord g hintWords a) ms)) kind b (omega arith)
     where
       g₁ : List ℕ
-      g₁ = bump g (wordAt freedWords a) (countIf isPending (hinted (word g hintWords a) ms))
+      g₁ = bump g (wordAt freedWords a) (countIf isPending (hinted (getWord g hintWords a) ms))
 
   abbrev freeing : ℕ → Tallies
   freeing n = talliesFrom (talliesOf g .granted) (bump (talliesOf g .freed) a n) (talliesOf g .used) (talliesOf g .high)
 
   -- as many more are freed as were pending
-  released-tallies : talliesOf (releasedWords g a (word g waitingWords a) ms) ≡ freeing (countIf isPending (countedBy g a ms))
-  released-tallies = go (word g waitingWords a) refl
+  released-tallies : talliesOf (releasedWords g a (getWord g waitingWords a) ms) ≡ freeing (countIf isPending (countedBy g a ms))
+  released-tallies = go (getWord g waitingWords a) refl
     where
       h : ℕ
-      h = word g hintWords a
+      h = getWord g hintWords a
 
-      go : (w : ℕ) → word g waitingWords a ≡ w → talliesOf (releasedWords g a w ms) ≡ freeing (countIf isPending (countedBy g a ms))
+      go : (w : ℕ) → getWord g waitingWords a ≡ w → talliesOf (releasedWords g a w ms) ≡ freeing (countIf isPending (countedBy g a ms))
       go zero e = ap freeing (sym ((λ i. countIf isPending (counted h (e i) ms)) ∙ counted-none-pending h ms))
       go (suc w) e =
           tallies-waiting (putWord (bump g (wordAt freedWords a) n) hintWords a 0) a 0 ha ∙ tallies-hint (bump g (wordAt freedWords a) n) a 0 ha
@@ -66,8 +66,8 @@ slab cap s i = countedBy (s .words) (suc i) (part cap (s .marks) i)
 record Swept (cap : ℕ) (s s′ : Slots) (k n : ℕ) : Type 0 where
   marks-long : length (s′ .marks) ≡ length (s .marks)
   words-long : length (s′ .words) ≡ length (s .words)
-  ids-hint : word (s′ .words) hintWords 0 ≡ word (s .words) hintWords 0
-  ids-waiting : word (s′ .words) waitingWords 0 ≡ word (s .words) waitingWords 0
+  ids-hint : getWord (s′ .words) hintWords 0 ≡ getWord (s .words) hintWords 0
+  ids-waiting : getWord (s′ .words) waitingWords 0 ≡ getWord (s .words) waitingWords 0
   swept : (i : ℕ) → k ≤ i → i < k + n → slab cap s′ i ≡ map letGo (slab cap s i)
   outside : (i : ℕ) → i < slabs → (i < k) ⊎ (k + n ≤ i) → slab cap s′ i ≡ slab cap s i
 
@@ -91,10 +91,10 @@ sweep-one cap s k f hk = record {
     ms = part cap (s .marks) k
 
     w : ℕ
-    w = word g waitingWords (suc k)
+    w = getWord g waitingWords (suc k)
 
     p : List ℕ
-    p = releasedMarks (word g hintWords (suc k)) w ms
+    p = releasedMarks (getWord g hintWords (suc k)) w ms
 
     inside : k * cap + cap ≤ length (s .marks)
     inside = part-long cap s f k hk .0
@@ -102,11 +102,11 @@ sweep-one cap s k f hk = record {
     fits : length p ≡ cap
     fits = go w ∙ part-long cap s f k hk .1
       where
-        go : (w : ℕ) → length (releasedMarks (word g hintWords (suc k)) w ms) ≡ length ms
+        go : (w : ℕ) → length (releasedMarks (getWord g hintWords (suc k)) w ms) ≡ length ms
         go zero = refl
-        go (suc w) = length-map (hinted (word g hintWords (suc k)) ms) letGo ∙ hinted-length (word g hintWords (suc k)) ms
+        go (suc w) = length-map (hinted (getWord g hintWords (suc k)) ms) letGo ∙ hinted-length (getWord g hintWords (suc k)) ms
 
-    else : (kind b : ℕ) → 3 ≤ kind → kind ≤ 4 → b < 79 → b ≢ suc k → word (releasedWords g (suc k) w ms) kind b ≡ word g kind b
+    else : (kind b : ℕ) → 3 ≤ kind → kind ≤ 4 → b < 79 → b ≢ suc k → getWord (releasedWords g (suc k) w ms) kind b ≡ getWord g kind b
     else = released-else g (suc k) ms (omega arith) w
 
     here : slab cap (releaseSlab cap k s) k ≡ map letGo (slab cap s k)
@@ -178,7 +178,7 @@ sweep-tallies cap (suc n) k s R f h r =
 pub read-release : (m : Memory) → Fits (m .slots) (slotsOf m) → read (memoryRelease m) ≡ afterRelease (read m)
 unfolding read
 read-release m f = λ i. storeOf (m .ids) cap
-    (((λ j. counted (q .ids-hint j) (q .ids-waiting j) (releasedMarks (word g hintWords 0) (word g waitingWords 0) (m .idMarks))) ∙ released-read g 0
+    (((λ j. counted (q .ids-hint j) (q .ids-waiting j) (releasedMarks (getWord g hintWords 0) (getWord g waitingWords 0) (m .idMarks))) ∙ released-read g 0
     (m .idMarks) (omega arith) (f .words-long)) i) (m .locations) (slots-after i) (m .owners) (batchOf (m .batch)) (tallies-after i)
   where
     cap : ℕ
@@ -196,7 +196,7 @@ read-release m f = λ i. storeOf (m .ids) cap
       high = f .high;
       marks-long = f .marks-long;
       words-long = released-long g 0 (m .idMarks) (omega arith)
-          (word g waitingWords 0) ∙ f .words-long;
+          (getWord g waitingWords 0) ∙ f .words-long;
     }
 
     s₂ : Slots
@@ -212,8 +212,8 @@ read-release m f = λ i. storeOf (m .ids) cap
     same : slotsRead cap s₁ ≡ R
     same = countedSlabs-words cap g (s₁ .words) slabs 0 (m .slotMarks)
         (λ a b. (
-          released-else g 0 (m .idMarks) (omega arith) (word g waitingWords 0) hintWords (suc a) (omega arith) (omega arith) (omega arith) (omega arith),
-          released-else g 0 (m .idMarks) (omega arith) (word g waitingWords 0) waitingWords (suc a) (omega arith) (omega arith) (omega arith) (omega arith),
+          released-else g 0 (m .idMarks) (omega arith) (getWord g waitingWords 0) hintWords (suc a) (omega arith) (omega arith) (omega arith) (omega arith),
+          released-else g 0 (m .idMarks) (omega arith) (getWord g waitingWords 0) waitingWords (suc a) (omega arith) (omega arith) (omega arith) (omega arith),
         ))
 
     by-slab : (i : ℕ) → i < slabs → part cap R i ≡ slab cap s₁ i

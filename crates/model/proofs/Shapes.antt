@@ -10,7 +10,7 @@ use borrow.Author.Tests.{eq-eqb, eqb-true}
 use Rattle.refusal.proofs.Tests.{both-ways}
 use Rattle.address.specs.Address.{slabs}
 use Rattle.id_allocator.proofs.LawsCounted.{counted-length}
-use Rattle.model.specs.Memory.{read, Memory, word, hintWords, waitingWords}
+use Rattle.model.specs.Memory.{read, Memory, getWord, hintWords, waitingWords}
 use Rattle.model.specs.Tables.{idMarksFit, slotMarksFit, batchFits, talliesFit, part, capacities, locationsFit, ownersFit, sized}
 use Rattle.model.proofs.Slabs.{length-countedSlabs}
 use Rattle.model.proofs.Tables.{all}
@@ -18,7 +18,7 @@ use Rattle.model.proofs.Words.{batchFits-length, talliesFit-length}
 
 pub idMarksFit-read : (m : Memory) → idMarksFit (read m) ≡ eqb (length (m .idMarks)) (m .ids)
 unfolding read
-idMarksFit-read m = ap (λ n. eqb n (m .ids)) (counted-length (word (m .tallies) hintWords 0) (word (m .tallies) waitingWords 0) (m .idMarks))
+idMarksFit-read m = ap (λ n. eqb n (m .ids)) (counted-length (getWord (m .tallies) hintWords 0) (getWord (m .tallies) waitingWords 0) (m .idMarks))
 
 pub slotMarksFit-read : (m : Memory) → slotMarksFit (read m) ≡ eqb (length (m .slotMarks)) (slabs * m .slots)
 unfolding read

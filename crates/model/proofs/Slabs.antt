@@ -12,9 +12,9 @@ use lib.Seq.{ext-getD, length-take-le, drop-at, take-at, getD-take, getD-append-
 use Rattle.address.specs.Address.{slabs}
 use Rattle.id_allocator.specs.Counted.{counted}
 use Rattle.id_allocator.proofs.LawsCounted.{counted-length}
-use Rattle.model.specs.Memory.{countedSlabs, countedBy, word, hintWords, waitingWords}
+use Rattle.model.specs.Memory.{countedSlabs, countedBy, getWord, hintWords, waitingWords}
 use Rattle.model.specs.MemoryAfter.{putPart}
-use Rattle.model.specs.Tables.{part, at}
+use Rattle.model.specs.Tables.{part, slotPlace}
 use Rattle.model.proofs.Tables.{part-at, length-part}
 
 -- ---- a table is told by its parts
@@ -72,7 +72,7 @@ unfolding countedSlabs
 length-countedSlabs cap g zero k t = refl
 length-countedSlabs cap g (suc n) k t =
     length-append (countedBy g (suc k) (take cap t)) _
-    ∙ ap (λ x. x + length (countedSlabs cap g n (suc k) (drop cap t))) (counted-length (word g hintWords (suc k)) (word g waitingWords (suc k)) (take cap t))
+    ∙ ap (λ x. x + length (countedSlabs cap g n (suc k) (drop cap t))) (counted-length (getWord g hintWords (suc k)) (getWord g waitingWords (suc k)) (take cap t))
     ∙ ap (λ x. length (take cap t) + x) (length-countedSlabs cap g n (suc k) (drop cap t))
     ∙ sym (length-append (take cap t) (drop cap t)) ∙ ap length (take-append-drop cap t)
 
@@ -93,7 +93,7 @@ part-countedSlabs cap g (suc n) k t i l h = go i h (λ j b. part-countedSlabs ca
     l′ = l ∙ suc-mul n cap ∙ add-comm (n * cap) cap
 
     long : length first ≡ cap
-    long = counted-length (word g hintWords (suc k)) (word g waitingWords (suc k)) (take cap t) ∙ length-take-le cap t (omega arith)
+    long = counted-length (getWord g hintWords (suc k)) (getWord g waitingWords (suc k)) (take cap t) ∙ length-take-le cap t (omega arith)
 
     go : (i : ℕ) → i < suc n → ((j : ℕ) → j < n → part cap rest j ≡ countedBy g (suc (suc k + j)) (part cap (drop cap t) j))
         → part cap (first ++ rest) i ≡ countedBy g (suc (k + i)) (part cap t i)
@@ -112,7 +112,7 @@ part-countedSlabs cap g (suc n) k t i l h = go i h (λ j b. part-countedSlabs ca
 
 -- the marks depend on the slabs' words alone
 pub countedSlabs-words : (cap : ℕ) (g g′ : List ℕ) (n k : ℕ) (t : List ℕ)
-    → ((a : ℕ) → a < k + n → (word g′ hintWords (suc a) ≡ word g hintWords (suc a)) × (word g′ waitingWords (suc a) ≡ word g waitingWords (suc a)))
+    → ((a : ℕ) → a < k + n → (getWord g′ hintWords (suc a) ≡ getWord g hintWords (suc a)) × (getWord g′ waitingWords (suc a) ≡ getWord g waitingWords (suc a)))
     → countedSlabs cap g′ n k t ≡ countedSlabs cap g n k t
 unfolding countedSlabs
 countedSlabs-words cap g g′ zero k t h = refl
@@ -122,7 +122,7 @@ countedSlabs-words cap g g′ (suc n) k t h = λ i.
 -- one slab changes: the table that is read changes there, and nowhere else
 pub countedSlabs-step : (cap : ℕ) (g g′ t t′ u : List ℕ) (k : ℕ) → 1 ≤ cap → length t ≡ slabs * cap → length t′ ≡ slabs * cap → length u ≡ slabs * cap
     → ((i : ℕ) → i < slabs → i ≢ k → part cap t′ i ≡ part cap t i)
-    → ((i : ℕ) → i < slabs → i ≢ k → (word g′ hintWords (suc i) ≡ word g hintWords (suc i)) × (word g′ waitingWords (suc i) ≡ word g waitingWords (suc i)))
+    → ((i : ℕ) → i < slabs → i ≢ k → (getWord g′ hintWords (suc i) ≡ getWord g hintWords (suc i)) × (getWord g′ waitingWords (suc i) ≡ getWord g waitingWords (suc i)))
     → ((i : ℕ) → i < slabs → i ≢ k → part cap u i ≡ part cap (countedSlabs cap g slabs 0 t) i)
     → countedBy g′ (suc k) (part cap t′ k) ≡ part cap u k
     → countedSlabs cap g′ slabs 0 t′ ≡ u

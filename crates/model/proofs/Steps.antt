@@ -12,9 +12,9 @@ use Rattle.id_allocator.specs.Counted.{counted, hinted, settle, quiet}
 use Rattle.marks.specs.Marks.{firstFree, smallestFree, letGo, countIf, isPending}
 use Rattle.id_allocator.specs.Written.{hintBack, givenBack}
 use Rattle.id_allocator.proofs.LawsCounted.{counted-take, counted-smallestFree, counted-first-pending, counted-pending, counted-giveBack, counted-length, counted-quiet-release, counted-release}
-use Rattle.model.specs.Memory.{word, countedSlabs, hintWords, waitingWords, countedBy, putWord, usedWords, grantedWords, wordAt, freedWords}
+use Rattle.model.specs.Memory.{getWord, countedSlabs, hintWords, waitingWords, countedBy, putWord, usedWords, grantedWords, wordAt, freedWords}
 use Rattle.model.specs.MemoryAfter.{Slots, tookSlot, pendedSlot, setSlot, readyBy, putPart, gaveSlot, releasedWords, releasedMarks}
-use Rattle.model.specs.Tables.{part, at, bump}
+use Rattle.model.specs.Tables.{part, slotPlace, bump}
 use Rattle.model.proofs.Slabs.{part-countedSlabs, length-countedSlabs, countedSlabs-step, length-putPart, part-putPart-other, part-putPart}
 use Rattle.model.proofs.Tables.{part-here, part-there, length-bump}
 use Rattle.model.proofs.Words.{word-other, word-bump, word-same}
@@ -34,8 +34,8 @@ slotsRead cap s = countedSlabs cap (s .words) slabs 0 (s .marks)
 pub record Stepped (cap : ℕ) (s s′ : Slots) (u : List ℕ) : Type 0 where
   pub marks-long : length (s′ .marks) ≡ length (s .marks)
   pub words-long : length (s′ .words) ≡ length (s .words)
-  pub ids-hint : word (s′ .words) hintWords 0 ≡ word (s .words) hintWords 0
-  pub ids-waiting : word (s′ .words) waitingWords 0 ≡ word (s .words) waitingWords 0
+  pub ids-hint : getWord (s′ .words) hintWords 0 ≡ getWord (s .words) hintWords 0
+  pub ids-waiting : getWord (s′ .words) waitingWords 0 ≡ getWord (s .words) waitingWords 0
   pub slots-read : slotsRead cap s′ ≡ u
 
 pub still : (cap : ℕ) (s : Slots) → Stepped cap s s (slotsRead cap s)
@@ -69,7 +69,7 @@ module _ (cap : ℕ) (s : Slots) (k j : ℕ) (f : Fits cap s) (hk : k < 78) (hj 
 
   -- words and marks change in this slab alone
   abbrev Apart : List ℕ → List ℕ → Type 0
-  Apart g t = ((kind b : ℕ) → kind ≤ 4 → 3 ≤ kind → b < 79 → b ≢ suc k → word g kind b ≡ word (s .words) kind b)
+  Apart g t = ((kind b : ℕ) → kind ≤ 4 → 3 ≤ kind → b < 79 → b ≢ suc k → getWord g kind b ≡ getWord (s .words) kind b)
       × ((i : ℕ) → i ≢ k → part cap t i ≡ part cap (s .marks) i)
 
   slot-step : (s′ : Slots) (v : ℕ) → length (s′ .marks) ≡ length (s .marks) → length (s′ .words) ≡ length (s .words) → Apart (s′ .words) (s′ .marks)
@@ -99,33 +99,33 @@ module _ (cap : ℕ) (s : Slots) (k j : ℕ) (f : Fits cap s) (hk : k < 78) (hj 
   )
       (ap (λ x. countedBy (tookSlot cap s (suc k) j .words) (suc k) x) (part-here cap (s .marks) k j 1 hj)
       ∙ (λ i. counted (hint i) (waits i) (set ms j 1))
-      ∙ counted-take (word (s .words) hintWords (suc k)) (word (s .words) waitingWords (suc k)) ms 0 j (omega arith) first)
+      ∙ counted-take (getWord (s .words) hintWords (suc k)) (getWord (s .words) waitingWords (suc k)) ms 0 j (omega arith) first)
     where
       g : List ℕ
       g = bump (s .words) (wordAt grantedWords (suc k)) 1
 
-      hint : word (tookSlot cap s (suc k) j .words) hintWords (suc k) ≡ j + 1
+      hint : getWord (tookSlot cap s (suc k) j .words) hintWords (suc k) ≡ j + 1
       hint = word-same (putWord g usedWords (suc k) 1) hintWords (suc k) (j + 1) (simp (length-set, f .words-long) (omega arith))
 
-      waits : word (tookSlot cap s (suc k) j .words) waitingWords (suc k) ≡ word (s .words) waitingWords (suc k)
+      waits : getWord (tookSlot cap s (suc k) j .words) waitingWords (suc k) ≡ getWord (s .words) waitingWords (suc k)
       waits = word-other (putWord g usedWords (suc k) 1) hintWords (suc k) (j + 1) waitingWords (suc k) (omega arith)
           ∙ word-other g usedWords (suc k) 1 waitingWords (suc k) (omega arith)
           ∙ word-bump (s .words) grantedWords (suc k) 1 waitingWords (suc k) (omega arith)
 
-      first : j ≡ smallestFree 0 (hinted (word (s .words) hintWords (suc k)) ms)
+      first : j ≡ smallestFree 0 (hinted (getWord (s .words) hintWords (suc k)) ms)
       first =
           least ∙ ap firstFree (slab-read cap s f k hk) ∙ sym (zero-add (firstFree (countedBy (s .words) (suc k) ms)))
-          ∙ counted-smallestFree (word (s .words) hintWords (suc k)) (word (s .words) waitingWords (suc k)) ms 0
+          ∙ counted-smallestFree (getWord (s .words) hintWords (suc k)) (getWord (s .words) waitingWords (suc k)) ms 0
 
   -- ---- made pending: where nothing waited the old 2s are settled first
 
   pub pended-read : Stepped cap s (pendedSlot cap s (suc k) j) (set (slotsRead cap s) (k * cap + j) 2)
-  pended-read = go (word (s .words) waitingWords (suc k)) refl
+  pended-read = go (getWord (s .words) waitingWords (suc k)) refl
     where
       h : ℕ
-      h = word (s .words) hintWords (suc k)
+      h = getWord (s .words) hintWords (suc k)
 
-      go : (w : ℕ) → word (s .words) waitingWords (suc k) ≡ w → Stepped cap s (setSlot cap (readyBy cap k s w) k j 2) (set (slotsRead cap s) (k * cap + j) 2)
+      go : (w : ℕ) → getWord (s .words) waitingWords (suc k) ≡ w → Stepped cap s (setSlot cap (readyBy cap k s w) k j 2) (set (slotsRead cap s) (k * cap + j) 2)
       go zero e = slot-step (setSlot cap (readyBy cap k s 0) k j 2) 2
           (length-set (putPart cap (s .marks) k (map settle ms)) (k * cap + j) 2 ∙ length-putPart cap (s .marks) k (map settle ms) inside settled)
           (length-set (s .words) _ 1) (
@@ -164,10 +164,10 @@ module _ (cap : ℕ) (s : Slots) (k j : ℕ) (f : Fits cap s) (hk : k < 78) (hj 
       ∙ counted-giveBack h w ms j)
     where
       h : ℕ
-      h = word (s .words) hintWords (suc k)
+      h = getWord (s .words) hintWords (suc k)
 
       w : ℕ
-      w = word (s .words) waitingWords (suc k)
+      w = getWord (s .words) waitingWords (suc k)
 
       back : List ℕ
       back = givenBack h j ms
@@ -191,24 +191,24 @@ loud h w ms = refl
 
 -- how an allocator's marks count after a release
 pub released-read : (g : List ℕ) (a : ℕ) (ms : List ℕ) → a < 79 → length g ≡ 473
-    → countedBy (releasedWords g a (word g waitingWords a) ms) a (releasedMarks (word g hintWords a) (word g waitingWords a) ms) ≡ map letGo (countedBy g a ms)
-released-read g a ms ha lg = go (word g waitingWords a) refl
+    → countedBy (releasedWords g a (getWord g waitingWords a) ms) a (releasedMarks (getWord g hintWords a) (getWord g waitingWords a) ms) ≡ map letGo (countedBy g a ms)
+released-read g a ms ha lg = go (getWord g waitingWords a) refl
   where
     h : ℕ
-    h = word g hintWords a
+    h = getWord g hintWords a
 
-    go : (w : ℕ) → word g waitingWords a ≡ w → countedBy (releasedWords g a w ms) a (releasedMarks h w ms) ≡ map letGo (countedBy g a ms)
+    go : (w : ℕ) → getWord g waitingWords a ≡ w → countedBy (releasedWords g a w ms) a (releasedMarks h w ms) ≡ map letGo (countedBy g a ms)
     go zero e = (λ i. counted h (e i) ms) ∙ sym (counted-quiet-release h ms) ∙ λ i. map letGo (counted h (sym e i) ms)
     go (suc w) e =
         (λ i. counted (hint i) (waits i) (map letGo (hinted h ms))) ∙ ap (λ x. counted 0 0 (map letGo x)) (sym (loud h w ms))
         ∙ counted-release h w ms ∙ λ i. map letGo (counted h (sym e i) ms)
       where
         g₁ : List ℕ
-        g₁ = bump g (wordAt freedWords a) (countIf isPending (hinted (word g hintWords a) ms))
+        g₁ = bump g (wordAt freedWords a) (countIf isPending (hinted (getWord g hintWords a) ms))
 
-        hint : word (putWord (putWord g₁ hintWords a 0) waitingWords a 0) hintWords a ≡ 0
+        hint : getWord (putWord (putWord g₁ hintWords a 0) waitingWords a 0) hintWords a ≡ 0
         hint = word-other (putWord g₁ hintWords a 0) waitingWords a 0 hintWords a (omega arith)
             ∙ word-same g₁ hintWords a 0 (simp (length-bump, lg) (omega arith))
 
-        waits : word (putWord (putWord g₁ hintWords a 0) waitingWords a 0) waitingWords a ≡ 0
+        waits : getWord (putWord (putWord g₁ hintWords a 0) waitingWords a 0) waitingWords a ≡ 0
         waits = word-same (putWord g₁ hintWords a 0) waitingWords a 0 (simp (length-set, length-bump, lg) (omega arith))

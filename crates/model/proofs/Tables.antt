@@ -1,5 +1,5 @@
 -- Laws of the tables: what a slot, a list of locations and a slab's part hold after a store to them. A location's place in the tables
--- tells the location (at-inj), and that is what keeps slots apart. Assumes nothing.
+-- tells the location (slotPlace-inj), and that is what keeps slots apart. Assumes nothing.
 use mathlib.Core.Path.{_≡_, sym, _∙_, refl, ap, subst}
 use mathlib.Core.Logic.{_⊎_, inl, inr, _≢_}
 use mathlib.Core.Bool.{Bool, true, _&&_, false, _||_, cond}
@@ -17,7 +17,7 @@ use Rattle.address.specs.Address.{unit, isLocation, slabs, packing}
 use Rattle.marks.specs.Marks.{firstFree}
 use Rattle.marks.proofs.LawsFree.{firstFree-free}
 use Rattle.model.specs.Batches.{spot}
-use Rattle.model.specs.Tables.{at, elem, write, writeAll, part, bump}
+use Rattle.model.specs.Tables.{slotPlace, elem, write, writeAll, part, bump}
 
 -- ---- tests
 
@@ -106,8 +106,8 @@ isLocation-packing cap k j c hk hj = isLocation-is cap (packing k j) (record { l
 div-of : (cap k j : ℕ) → j < cap → (k * cap + j) / cap ≡ k
 div-of cap k j h = mul-add-div-right (omega arith) k j ∙ rw (div-eq-of-lt h) (omega arith)
 
-pub at-inj : (cap a b : ℕ) → isLocation cap a ≡ true → isLocation cap b ≡ true → at cap a ≡ at cap b → a ≡ b
-at-inj cap a b va vb e =
+pub slotPlace-inj : (cap a b : ℕ) → isLocation cap a ≡ true → isLocation cap b ≡ true → slotPlace cap a ≡ slotPlace cap b → a ≡ b
+slotPlace-inj cap a b va vb e =
     let u = isLocation-says cap a va in
     let v = isLocation-says cap b vb in
     let q : pred (a / unit) ≡ pred (b / unit) =
@@ -119,42 +119,42 @@ at-inj cap a b va vb e =
     let r : a % unit ≡ b % unit = omega arith in
     omega arith
 
-pub at-lt : (cap l : ℕ) → isLocation cap l ≡ true → at cap l < slabs * cap
-at-lt cap l e =
+pub slotPlace-lt : (cap l : ℕ) → isLocation cap l ≡ true → slotPlace cap l < slabs * cap
+slotPlace-lt cap l e =
     let v = isLocation-says cap l e in
     let h : suc (pred (l / unit)) ≤ 78 = omega (arith, v .low, v .high) in
     omega (arith, v .slot, mul-le-mul-right cap h)
 
-pub at-packing : (cap k j : ℕ) → cap ≤ 65536 → j < cap → at cap (packing k j) ≡ k * cap + j
-at-packing cap k j c hj =
+pub slotPlace-packing : (cap k j : ℕ) → cap ≤ 65536 → j < cap → slotPlace cap (packing k j) ≡ k * cap + j
+slotPlace-packing cap k j c hj =
     let q : pred (packing k j / unit) ≡ k = omega arith in
     let r : packing k j % unit ≡ j = omega arith in
     rw (q, r)
 
 -- ---- write
 
-pub write-set : (cap l v : ℕ) (t : List ℕ) → isLocation cap l ≡ true → write cap l v t ≡ set t (at cap l) v
-write-set cap l v t e = ap (λ b. cond b (set t (at cap l) v) t) e
+pub write-set : (cap l v : ℕ) (t : List ℕ) → isLocation cap l ≡ true → write cap l v t ≡ set t (slotPlace cap l) v
+write-set cap l v t e = ap (λ b. cond b (set t (slotPlace cap l) v) t) e
 
 pub write-none : (cap l v : ℕ) (t : List ℕ) → isLocation cap l ≡ false → write cap l v t ≡ t
-write-none cap l v t e = ap (λ b. cond b (set t (at cap l) v) t) e
+write-none cap l v t e = ap (λ b. cond b (set t (slotPlace cap l) v) t) e
 
 pub length-write : (cap l v : ℕ) (t : List ℕ) → length (write cap l v t) ≡ length t
 length-write cap l v t = go (isLocation cap l)
   where
-    go : (b : Bool) → length (cond b (set t (at cap l) v) t) ≡ length t
-    go true = length-set t (at cap l) v
+    go : (b : Bool) → length (cond b (set t (slotPlace cap l) v) t) ≡ length t
+    go true = length-set t (slotPlace cap l) v
     go false = refl
 
-pub write-other : (cap l v : ℕ) (t : List ℕ) (p : ℕ) → (isLocation cap l ≡ true → p ≢ at cap l) → getD (write cap l v t) p 0 ≡ getD t p 0
+pub write-other : (cap l v : ℕ) (t : List ℕ) (p : ℕ) → (isLocation cap l ≡ true → p ≢ slotPlace cap l) → getD (write cap l v t) p 0 ≡ getD t p 0
 write-other cap l v t p h = go (isLocation cap l) h
   where
-    go : (b : Bool) → (b ≡ true → p ≢ at cap l) → getD (cond b (set t (at cap l) v) t) p 0 ≡ getD t p 0
-    go true h = getD-set-other t (at cap l) p v 0 (h refl)
+    go : (b : Bool) → (b ≡ true → p ≢ slotPlace cap l) → getD (cond b (set t (slotPlace cap l) v) t) p 0 ≡ getD t p 0
+    go true h = getD-set-other t (slotPlace cap l) p v 0 (h refl)
     go false h = refl
 
-pub write-same : (cap l v : ℕ) (t : List ℕ) → isLocation cap l ≡ true → at cap l < length t → getD (write cap l v t) (at cap l) 0 ≡ v
-write-same cap l v t e h = ap (λ x. getD x (at cap l) 0) (write-set cap l v t e) ∙ getD-set-same t (at cap l) v 0 h
+pub write-same : (cap l v : ℕ) (t : List ℕ) → isLocation cap l ≡ true → slotPlace cap l < length t → getD (write cap l v t) (slotPlace cap l) 0 ≡ v
+write-same cap l v t e h = ap (λ x. getD x (slotPlace cap l) 0) (write-set cap l v t e) ∙ getD-set-same t (slotPlace cap l) v 0 h
 
 -- a place holds v, or what it held
 pub set-cases : (t : List ℕ) (q v p : ℕ) → (getD (set t q v) p 0 ≡ v) ⊎ (getD (set t q v) p 0 ≡ getD t p 0)
@@ -167,8 +167,8 @@ set-cases (x ∷ xs) (suc q) v (suc p) = set-cases xs q v p
 pub write-cases : (cap l v : ℕ) (t : List ℕ) (p : ℕ) → (getD (write cap l v t) p 0 ≡ v) ⊎ (getD (write cap l v t) p 0 ≡ getD t p 0)
 write-cases cap l v t p = go (isLocation cap l)
   where
-    go : (b : Bool) → (getD (cond b (set t (at cap l) v) t) p 0 ≡ v) ⊎ (getD (cond b (set t (at cap l) v) t) p 0 ≡ getD t p 0)
-    go true = set-cases t (at cap l) v p
+    go : (b : Bool) → (getD (cond b (set t (slotPlace cap l) v) t) p 0 ≡ v) ⊎ (getD (cond b (set t (slotPlace cap l) v) t) p 0 ≡ getD t p 0)
+    go true = set-cases t (slotPlace cap l) v p
     go false = inr refl
 
 -- what holds of v and of every place holds of every place after v is written
@@ -217,20 +217,20 @@ pub writeAll-keeps : (cap : ℕ) (ls : List ℕ) (v : ℕ) (t : List ℕ) (p : �
 writeAll-keeps cap [] v t p e = e
 writeAll-keeps cap (l ∷ ls) v t p e = writeAll-keeps cap ls v (write cap l v t) p (write-keeps cap l v t p e)
 
-pub writeAll-other : (cap : ℕ) (ls : List ℕ) (v : ℕ) (t : List ℕ) (p : ℕ) → ((l : ℕ) → elem l ls ≡ true → isLocation cap l ≡ true → p ≢ at cap l)
+pub writeAll-other : (cap : ℕ) (ls : List ℕ) (v : ℕ) (t : List ℕ) (p : ℕ) → ((l : ℕ) → elem l ls ≡ true → isLocation cap l ≡ true → p ≢ slotPlace cap l)
     → getD (writeAll cap ls v t) p 0 ≡ getD t p 0
 writeAll-other cap [] v t p h = refl
 writeAll-other cap (l ∷ ls) v t p h =
     writeAll-other cap ls v (write cap l v t) p (λ k e. h k (elem-tail k l ls e)) ∙ write-other cap l v t p (h l (elem-head l l ls refl))
 
-pub writeAll-same : (cap : ℕ) (ls : List ℕ) (v : ℕ) (t : List ℕ) (l : ℕ) → elem l ls ≡ true → isLocation cap l ≡ true → at cap l < length t
-    → getD (writeAll cap ls v t) (at cap l) 0 ≡ v
+pub writeAll-same : (cap : ℕ) (ls : List ℕ) (v : ℕ) (t : List ℕ) (l : ℕ) → elem l ls ≡ true → isLocation cap l ≡ true → slotPlace cap l < length t
+    → getD (writeAll cap ls v t) (slotPlace cap l) 0 ≡ v
 writeAll-same cap [] v t l e n h = clash (sym e)
 writeAll-same cap (k ∷ ls) v t l e n h = go (λ m. writeAll-same cap ls v (write cap k v t) l m n (rw length-write h)) (elem-cases l k ls e)
   where
-    go : (elem l ls ≡ true → getD (writeAll cap ls v (write cap k v t)) (at cap l) 0 ≡ v) → (l ≡ k) ⊎ (elem l ls ≡ true)
-        → getD (writeAll cap ls v (write cap k v t)) (at cap l) 0 ≡ v
-    go r (inl s) = writeAll-keeps cap ls v (write cap k v t) (at cap l) (rw (← s) (write-same cap l v t n h))
+    go : (elem l ls ≡ true → getD (writeAll cap ls v (write cap k v t)) (slotPlace cap l) 0 ≡ v) → (l ≡ k) ⊎ (elem l ls ≡ true)
+        → getD (writeAll cap ls v (write cap k v t)) (slotPlace cap l) 0 ≡ v
+    go r (inl s) = writeAll-keeps cap ls v (write cap k v t) (slotPlace cap l) (rw (← s) (write-same cap l v t n h))
     go r (inr m) = r m
 
 pub writeAll-each : (P : ℕ → Type 0) (cap : ℕ) (ls : List ℕ) (v : ℕ) (t : List ℕ) → P v → ((p : ℕ) → P (getD t p 0)) → (p : ℕ) → P (getD (writeAll cap ls v t) p 0)
@@ -288,7 +288,7 @@ part-there cap t k j v i h n = go (decLt k i)
         ∙ take-set-le cap (drop (i * cap) t) (k * cap + j - i * cap) v (omega arith)
 
 -- a location's slab is the one before the number of its allocator
-pub slab-of : (cap l k : ℕ) → isLocation cap l ≡ true → l / unit ≡ suc k → at cap l ≡ k * cap + l % unit
+pub slab-of : (cap l k : ℕ) → isLocation cap l ≡ true → l / unit ≡ suc k → slotPlace cap l ≡ k * cap + l % unit
 slab-of cap l k w e = let q : pred (l / unit) ≡ k = omega arith in ap (λ x. x * cap + l % unit) q
 
 pub part-write : (cap l v : ℕ) (t : List ℕ) (k : ℕ) → isLocation cap l ≡ true → l / unit ≡ suc k → part cap (write cap l v t) k ≡ set (part cap t k) (l % unit) v
@@ -306,8 +306,8 @@ part-write-other cap l v t k w n =
 
 pub record Spot (cap : ℕ) (t : List ℕ) (l : ℕ) : Type 0 where
   pub range : isLocation cap l ≡ true
-  pub is-free : getD t (at cap l) 0 ≡ 0
-  pub inside : at cap l < length t
+  pub is-free : getD t (slotPlace cap l) 0 ≡ 0
+  pub inside : slotPlace cap l < length t
 
 pub spot-is : (cap : ℕ) (t : List ℕ) (k : ℕ) → cap ≤ 65536 → length t ≡ slabs * cap → spot cap t k ≢ 0 → Spot cap t (spot cap t k)
 spot-is cap t k c len = go (ltb j (length (part cap t k))) refl
@@ -324,8 +324,8 @@ spot-is cap t k c len = go (ltb j (length (part cap t k))) refl
         let k78 : k < 78 = below k hk in
         record {
           range = isLocation-packing cap k j c k78 hj;
-          is-free = rw (at-packing cap k j c hj) (sym (part-at cap t k j hj) ∙ firstFree-free (part cap t k));
-          inside = rw (at-packing cap k j c hj, len) hk;
+          is-free = rw (slotPlace-packing cap k j c hj) (sym (part-at cap t k j hj) ∙ firstFree-free (part cap t k));
+          inside = rw (slotPlace-packing cap k j c hj, len) hk;
         }
       where
         below : (k : ℕ) → k * cap + j < slabs * cap → k < 78

@@ -10,20 +10,20 @@ use lib.ListN.{length, set, drop, length-take, length-drop, length-set}
 use lib.Seq.{getD-set-same, getD-set-other, drop-set-lt, ext-getD, drop-set-add}
 use borrow.Author.Tests.{eqb-true}
 use Rattle.refusal.proofs.Tests.{and-true}
-use Rattle.model.specs.Memory.{word, wordAt, putWord, talliesOf, grantedWords, freedWords, usedWords, hintWords, waitingWords, highWords, Memory, read}
+use Rattle.model.specs.Memory.{getWord, wordAt, putWord, talliesOf, grantedWords, freedWords, usedWords, hintWords, waitingWords, highWords, Memory, read}
 use Rattle.model.specs.Store.{talliesFrom, Store}
 use Rattle.model.specs.Tables.{bump, part, talliesFit, batchFits}
 use Rattle.model.proofs.Tables.{bump-other, part-here, part-there, length-part, part-at}
 
 -- ---- one word
 
-pub word-same : (g : List ℕ) (kind a v : ℕ) → wordAt kind a < length g → word (putWord g kind a v) kind a ≡ v
+pub word-same : (g : List ℕ) (kind a v : ℕ) → wordAt kind a < length g → getWord (putWord g kind a v) kind a ≡ v
 word-same g kind a v h = getD-set-same g (wordAt kind a) v 0 h
 
-pub word-other : (g : List ℕ) (kind a v kind′ a′ : ℕ) → wordAt kind′ a′ ≢ wordAt kind a → word (putWord g kind a v) kind′ a′ ≡ word g kind′ a′
+pub word-other : (g : List ℕ) (kind a v kind′ a′ : ℕ) → wordAt kind′ a′ ≢ wordAt kind a → getWord (putWord g kind a v) kind′ a′ ≡ getWord g kind′ a′
 word-other g kind a v kind′ a′ h = getD-set-other g (wordAt kind a) (wordAt kind′ a′) v 0 h
 
-pub word-bump : (g : List ℕ) (kind a n kind′ a′ : ℕ) → wordAt kind′ a′ ≢ wordAt kind a → word (bump g (wordAt kind a) n) kind′ a′ ≡ word g kind′ a′
+pub word-bump : (g : List ℕ) (kind a n kind′ a′ : ℕ) → wordAt kind′ a′ ≢ wordAt kind a → getWord (bump g (wordAt kind a) n) kind′ a′ ≡ getWord g kind′ a′
 word-bump g kind a n kind′ a′ h = bump-other g (wordAt kind a) n (wordAt kind′ a′) h
 
 -- ---- a word of the first kinds, seen in the tallies

@@ -50,8 +50,8 @@ highWords = 5
 abbrev pub wordAt : ℕ → ℕ → ℕ
 wordAt kind a = kind * allocators + a
 
-abbrev pub word : List ℕ → ℕ → ℕ → ℕ
-word g kind a = getD g (wordAt kind a) 0
+abbrev pub getWord : List ℕ → ℕ → ℕ → ℕ
+getWord g kind a = getD g (wordAt kind a) 0
 
 abbrev pub putWord : List ℕ → ℕ → ℕ → ℕ → List ℕ
 putWord g kind a v = set g (wordAt kind a) v
@@ -71,7 +71,7 @@ talliesOf g = record {
 
 -- the marks of an allocator as they count, by its hint and waiting words
 abbrev pub countedBy : List ℕ → ℕ → List ℕ → List ℕ
-countedBy g a ms = counted (word g hintWords a) (word g waitingWords a) ms
+countedBy g a ms = counted (getWord g hintWords a) (getWord g waitingWords a) ms
 
 -- those of n slabs from k on, whose marks stand one slab after the other
 unfoldable pub countedSlabs : ℕ → List ℕ → ℕ → ℕ → List ℕ → List ℕ

@@ -15,7 +15,7 @@ use Rattle.model.specs.Ids.{nextId}
 use Rattle.model.specs.Batches.{updatesOf, takenBy}
 use Rattle.model.specs.Rebuild.{rowsOf, heldBy, locatedBy, ownedBy}
 use Rattle.model.specs.Step.{refusal, unless}
-use Rattle.model.specs.Memory.{Memory, memoryOf, grantedWords, freedWords, usedWords, hintWords, waitingWords, highWords, wordAt, word, putWord, read}
+use Rattle.model.specs.Memory.{Memory, memoryOf, grantedWords, freedWords, usedWords, hintWords, waitingWords, highWords, wordAt, getWord, putWord, read}
 
 -- ---- one table changed
 
@@ -63,12 +63,12 @@ releasedMarks hint (suc w) ms = map letGo (hinted hint ms)
 abbrev pub releasedWords : List ℕ → ℕ → ℕ → List ℕ → List ℕ
 releasedWords g a zero ms = g
 releasedWords g a (suc w) ms =
-    putWord (putWord (bump g (wordAt freedWords a) (countIf isPending (hinted (word g hintWords a) ms))) hintWords a 0) waitingWords a 0
+    putWord (putWord (bump g (wordAt freedWords a) (countIf isPending (hinted (getWord g hintWords a) ms))) hintWords a 0) waitingWords a 0
 
 abbrev pub releaseSlab : ℕ → ℕ → Slots → Slots
 releaseSlab cap k s = record {
-  marks = putPart cap (s .marks) k (releasedMarks (word (s .words) hintWords (suc k)) (word (s .words) waitingWords (suc k)) (part cap (s .marks) k));
-  words = releasedWords (s .words) (suc k) (word (s .words) waitingWords (suc k)) (part cap (s .marks) k);
+  marks = putPart cap (s .marks) k (releasedMarks (getWord (s .words) hintWords (suc k)) (getWord (s .words) waitingWords (suc k)) (part cap (s .marks) k));
+  words = releasedWords (s .words) (suc k) (getWord (s .words) waitingWords (suc k)) (part cap (s .marks) k);
 }
 
 -- n slabs from k on
@@ -78,8 +78,8 @@ releaseSlabs cap (suc n) k s = releaseSlabs cap n (suc k) (releaseSlab cap k s)
 
 abbrev pub releaseIds : Memory → Memory
 releaseIds m =
-    withIds m (releasedMarks (word (m .tallies) hintWords 0) (word (m .tallies) waitingWords 0) (m .idMarks))
-    (releasedWords (m .tallies) 0 (word (m .tallies) waitingWords 0) (m .idMarks))
+    withIds m (releasedMarks (getWord (m .tallies) hintWords 0) (getWord (m .tallies) waitingWords 0) (m .idMarks))
+    (releasedWords (m .tallies) 0 (getWord (m .tallies) waitingWords 0) (m .idMarks))
 
 abbrev pub memoryRelease : Memory → Memory
 memoryRelease m = withSlots (releaseIds m) (releaseSlabs (m .slots) slabs 0 (slotsOf (releaseIds m)))
@@ -114,7 +114,7 @@ readyBy cap k s zero = record { marks = putPart cap (s .marks) k (map settle (pa
 readyBy cap k s (suc w) = s
 
 abbrev pub readySlab : ℕ → ℕ → Slots → Slots
-readySlab cap k s = readyBy cap k s (word (s .words) waitingWords (suc k))
+readySlab cap k s = readyBy cap k s (getWord (s .words) waitingWords (suc k))
 
 abbrev pub setSlot : ℕ → Slots → ℕ → ℕ → ℕ → Slots
 setSlot cap s k j v = record { marks = set (s .marks) (k * cap + j) v; words = s .words }
@@ -136,7 +136,7 @@ readyWords g a (suc w) = g
 
 abbrev pub pendId : Memory → ℕ → Memory
 pendId m i =
-    withIds m (set (readyMarks (word (m .tallies) waitingWords 0) (m .idMarks)) i 2) (readyWords (m .tallies) 0 (word (m .tallies) waitingWords 0))
+    withIds m (set (readyMarks (getWord (m .tallies) waitingWords 0) (m .idMarks)) i 2) (readyWords (m .tallies) 0 (getWord (m .tallies) waitingWords 0))
 
 abbrev pub pendOld : Memory → ℕ → Memory
 pendOld m o = withSlots m (pendSlot (m .slots) (slotsOf m) o)
@@ -157,8 +157,8 @@ memoryCommit m = withKept (commitAll m (kept (read m))) (set (m .batch) 0 0)
 
 abbrev pub gaveSlot : ℕ → Slots → ℕ → ℕ → Slots
 gaveSlot cap s a j = record {
-  marks = putPart cap (s .marks) (pred a) (givenBack (word (s .words) hintWords a) j (part cap (s .marks) (pred a)));
-  words = putWord (bump (s .words) (wordAt freedWords a) 1) hintWords a (hintBack (word (s .words) hintWords a) j (part cap (s .marks) (pred a)));
+  marks = putPart cap (s .marks) (pred a) (givenBack (getWord (s .words) hintWords a) j (part cap (s .marks) (pred a)));
+  words = putWord (bump (s .words) (wordAt freedWords a) 1) hintWords a (hintBack (getWord (s .words) hintWords a) j (part cap (s .marks) (pred a)));
 }
 
 abbrev pub giveSlot : ℕ → Slots → ℕ → Slots
@@ -193,7 +193,7 @@ memoryRebuilt n m rs = record {
 
 abbrev pub raiseWord : List ℕ → ℕ → ℕ → List ℕ
 raiseWord g k zero = g
-raiseWord g k (suc top) = putWord g highWords k (max (word g highWords k) top)
+raiseWord g k (suc top) = putWord g highWords k (max (getWord g highWords k) top)
 
 abbrev pub withWords : Memory → List ℕ → Memory
 withWords m g = withIds m (m .idMarks) g

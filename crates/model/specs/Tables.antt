@@ -12,12 +12,12 @@ use Rattle.model.specs.Store.{Batch, Store, Row}
 -- ---- slots
 
 -- where the tables have a location's slot
-abbrev pub at : ℕ → ℕ → ℕ
-at cap l = pred (l / unit) * cap + l % unit
+abbrev pub slotPlace : ℕ → ℕ → ℕ
+slotPlace cap l = pred (l / unit) * cap + l % unit
 
 -- a number is stored at a location's slot; a number that is no location stores nothing
 abbrev pub write : ℕ → ℕ → ℕ → List ℕ → List ℕ
-write cap l v t = cond (isLocation cap l) (set t (at cap l) v) t
+write cap l v t = cond (isLocation cap l) (set t (slotPlace cap l) v) t
 
 abbrev pub writeAll : ℕ → List ℕ → ℕ → List ℕ → List ℕ
 writeAll cap [] v t = t
@@ -94,7 +94,7 @@ heldId s i = inIds s i && isHeld (getD (s .idMarks) i 0)
 abbrev pub badAt : Store → ℕ → ℕ → Bool
 badAt s i zero = false
 badAt s i (suc l) =
-    not (isLocation (s .slots) (suc l) && isHeld (getD (s .slotMarks) (at (s .slots) (suc l)) 0) && eqb (getD (s .owners) (at (s .slots) (suc l)) 0) i)
+    not (isLocation (s .slots) (suc l) && isHeld (getD (s .slotMarks) (slotPlace (s .slots) (suc l)) 0) && eqb (getD (s .owners) (slotPlace (s .slots) (suc l)) 0) i)
 
 abbrev pub badLocation : Store → ℕ → Bool
 badLocation s i = badAt s i (locationOf s i)

@@ -12,7 +12,7 @@ use Rattle.refusal.specs.Refusals.{wrongShape, batchOpen, noneFree}
 use Rattle.marks.specs.Marks.{isFree, smallestFree, hold}
 use Rattle.id_allocator.specs.Counted.{hinted, quiet, counted}
 use Rattle.id_allocator.proofs.LawsCounted.{counted-smallestFree, counted-length, settle-free}
-use Rattle.model.specs.Memory.{Memory, read, wordAt, word, putWord, grantedWords, usedWords, hintWords, waitingWords}
+use Rattle.model.specs.Memory.{Memory, read, wordAt, getWord, putWord, grantedWords, usedWords, hintWords, waitingWords}
 use Rattle.model.specs.MemoryAfter.{withIds, newIdWords, memoryEffect, memoryAfter}
 use Rattle.model.specs.Step.{refusal, grant, answer, answerBy}
 use Rattle.model.specs.Store.{newId, gave}
@@ -30,11 +30,11 @@ use Rattle.object_ids.specs.NewIds.{takes}
 module _ (m : Memory) where
   -- the smallest free number above 0, searched for from the hint
   abbrev pub found : ℕ
-  found = smallestFree 1 (hinted (word (m .tallies) hintWords 0) (m .idMarks))
+  found = smallestFree 1 (hinted (getWord (m .tallies) hintWords 0) (m .idMarks))
 
   pub next-found : nextId (read m) ≡ found
   unfolding read
-  next-found = counted-smallestFree (word (m .tallies) hintWords 0) (word (m .tallies) waitingWords 0) (m .idMarks) 1
+  next-found = counted-smallestFree (getWord (m .tallies) hintWords 0) (getWord (m .tallies) waitingWords 0) (m .idMarks) 1
 
   abbrev pub fits : Bool
   fits = newIdFits (m .ids) (m .slots) (length (m .idMarks)) (length (m .batch)) (length (m .tallies))
@@ -68,9 +68,9 @@ free-read (suc hint) zero (x ∷ ms) h = settle-free (hold x) ∙ hold-taken x �
 free-read (suc hint) (suc w) (x ∷ ms) h = hold-taken x ∙ and-no (isFree x) (eqb (suc hint) 0) (eqb·suc-zero hint)
 
 pub takes-read : (m : Memory) → 0 < length (m .idMarks)
-    → takes (getD (m .idMarks) 0 0) (word (m .tallies) hintWords 0) ≡ cond (isFree (getD (read m .idMarks) 0 0)) 2 1
+    → takes (getD (m .idMarks) 0 0) (getWord (m .tallies) hintWords 0) ≡ cond (isFree (getD (read m .idMarks) 0 0)) 2 1
 unfolding read
-takes-read m h = ap (λ b. cond b 2 1) (sym (free-read (word (m .tallies) hintWords 0) (word (m .tallies) waitingWords 0) (m .idMarks) h))
+takes-read m h = ap (λ b. cond b 2 1) (sym (free-read (getWord (m .tallies) hintWords 0) (getWord (m .tallies) waitingWords 0) (m .idMarks) h))
 
 -- ---- a granted call: the id is below the length, and the tables are written so
 pub record NewIdGranted (m : Memory) (id : ℕ) : Type 0 where
@@ -78,7 +78,7 @@ pub record NewIdGranted (m : Memory) (id : ℕ) : Type 0 where
   pub small : id < 65536
   pub after : memoryAfter m newId
       ≡ withIds m (set (set (m .idMarks) id 1) 0 (hold (getD (m .idMarks) 0 0)))
-      (newIdWords (m .tallies) id (takes (getD (m .idMarks) 0 0) (word (m .tallies) hintWords 0)))
+      (newIdWords (m .tallies) id (takes (getD (m .idMarks) 0 0) (getWord (m .tallies) hintWords 0)))
 
 pub newId-granted : (m : Memory) (id : ℕ) → gave id ≡ answer (read m) newId → NewIdGranted m id
 unfolding refusal grant memoryEffect read
@@ -86,7 +86,7 @@ newId-granted m id e =
     let q = granted-after m newId (gave id) e refl in
     let is : id ≡ nextId (read m) = let g : gave id ≡ gave (nextId (read m)) = q .given in cc in
     let lt : nextId (read m) < length (read m .idMarks) = new-id-granted (read m) (q .fine) in
-    let len : length (read m .idMarks) ≡ length (m .idMarks) = counted-length (word (m .tallies) hintWords 0) (word (m .tallies) waitingWords 0) (m .idMarks) in
+    let len : length (read m .idMarks) ≡ length (m .idMarks) = counted-length (getWord (m .tallies) hintWords 0) (getWord (m .tallies) waitingWords 0) (m .idMarks) in
     let s = shape-ok (read m) _ (first-ok _ _ (q .fine)) in
     let r = capacities-range (m .ids) (m .slots) (s .0) in
     let f = and-true _ (talliesFit (read m)) (s .1) in
@@ -104,7 +104,7 @@ newId-granted m id e =
 pub held-marks : (ms with after : List ℕ) (id first held : ℕ) → with ≡ set ms id 1 → held ≡ hold first → after ≡ set with 0 held → after ≡ set (set ms id 1) 0 (hold first)
 held-marks ms with after id first held p h e = e ∙ (λ k. set (p k) 0 (h k))
 
-pub held-words : (g counted used after : List ℕ) (id first hint more : ℕ) → hint ≡ word g hintWords 0 → more ≡ takes first hint → counted ≡ bump g (wordAt grantedWords 0) more
-    → used ≡ putWord counted usedWords 0 1 → after ≡ putWord used hintWords 0 (id + 1) → after ≡ newIdWords g id (takes first (word g hintWords 0))
+pub held-words : (g counted used after : List ℕ) (id first hint more : ℕ) → hint ≡ getWord g hintWords 0 → more ≡ takes first hint → counted ≡ bump g (wordAt grantedWords 0) more
+    → used ≡ putWord counted usedWords 0 1 → after ≡ putWord used hintWords 0 (id + 1) → after ≡ newIdWords g id (takes first (getWord g hintWords 0))
 held-words g counted used after id first hint more h m c u e =
     e ∙ ap (λ x. putWord x hintWords 0 (id + 1)) (u ∙ ap (λ x. putWord x usedWords 0 1) (c ∙ ap (bump g (wordAt grantedWords 0)) (m ∙ ap (takes first) h)))

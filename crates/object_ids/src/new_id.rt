@@ -5,7 +5,7 @@ ghost use lib.ListN.{length, getD, set};
 ghost use Rattle.marks.specs.Marks.{hold};
 ghost use Rattle.model.specs.Store.{newId};
 ghost use Rattle.model.specs.Step.{answer};
-ghost use Rattle.model.specs.Memory.{read, word, hintWords};
+ghost use Rattle.model.specs.Memory.{read, getWord, hintWords};
 ghost use Rattle.model.specs.MemoryAfter.{newIdWords, memoryAfter};
 ghost use Rattle.object_ids.specs.NewIds.{newIdMemory, newIdAnswer, takes};
 use crate::IDS;
@@ -47,7 +47,7 @@ fn held(mark: u8) -> u8
 }
 
 // How many numbers a new id takes: 0 as well where it is free, which a 0 below the hint is not.
-fn taken(mark: u8, hint: u64) -> u64
+fn numbers_taken(mark: u8, hint: u64) -> u64
     ensures { λ r. ⌜ r ≡ takes mark hint ⌝ }
 {
     if mark != marks::FREE {
@@ -60,13 +60,13 @@ fn taken(mark: u8, hint: u64) -> u64
 fn hold_id(id_marks: &mut [u8], tallies: &mut [u64], id: usize)
     requires { ⌜ (0 < length (now «id_marks»)) × (id < 65536) ⌝ }
     ensures { λ _. ⌜ (now («id_marks» .exit) ≡ set (set (now («id_marks» .entry)) id 1) 0 (hold (getD (now («id_marks» .entry)) 0 0)))
-        × (now (tallies .exit) ≡ newIdWords (now (tallies .entry)) id (takes (getD (now («id_marks» .entry)) 0 0) (word (now (tallies .entry)) hintWords 0))) ⌝ }
+        × (now (tallies .exit) ≡ newIdWords (now (tallies .entry)) id (takes (getD (now («id_marks» .entry)) 0 0) (getWord (now (tallies .entry)) hintWords 0))) ⌝ }
 {
     let first = id_marks[0];
     let hint = tables::get(tallies, tables::HINT, IDS);
     id_allocator::put(id_marks, id, marks::HELD);
     id_allocator::put(id_marks, 0, held(first));
-    tables::add(tallies, tables::GRANTED, IDS, taken(first, hint));
+    tables::add(tallies, tables::GRANTED, IDS, numbers_taken(first, hint));
     tables::put(tallies, tables::USED, IDS, 1);
     tables::put(tallies, tables::HINT, IDS, id as u64 + 1);
 }

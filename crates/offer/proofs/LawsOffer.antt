@@ -26,7 +26,7 @@ use Rattle.model.proofs.Batches.{length-updatesOf, length-place}
 use Rattle.model.proofs.ReadBatches.{memory-fits}
 use Rattle.model.proofs.Steps.{Fits}
 use Rattle.tables.specs.Shapes.{allFit}
-use Rattle.tables.specs.Verdicts.{verdictOf}
+use Rattle.tables.specs.Verdicts.{judgedVerdict}
 use Rattle.tables.specs.declared.Judged.{Judged}
 use Rattle.tables.specs.declared.Judged.the-variants as J
 use Rattle.tables.proofs.Lengths.{allFit-read}
@@ -40,13 +40,13 @@ use Rattle.offer.proofs.LawsRoom.{room-read}
 use Rattle.offer.proofs.LawsUpdates.{length-kindsOf, kinds-front, check-read, check-lent}
 
 -- ---- one test after another
-pub seq-stop : (o : Judged) (v w : Verdict) (r : Refusal) → verdictOf o ≡ v → o ≡ J.Refused r → verdictOf o ≡ (v ⨾ w)
+pub seq-stop : (o : Judged) (v w : Verdict) (r : Refusal) → judgedVerdict o ≡ v → o ≡ J.Refused r → judgedVerdict o ≡ (v ⨾ w)
 unfolding _⨾_
-seq-stop o v w r e p = let q : refuse (r .number) (r .index) ≡ v = sym (ap verdictOf p) ∙ e in ap verdictOf p ∙ ap (λ x. x ⨾ w) q
+seq-stop o v w r e p = let q : refuse (r .number) (r .index) ≡ v = sym (ap judgedVerdict p) ∙ e in ap judgedVerdict p ∙ ap (λ x. x ⨾ w) q
 
-pub seq-on : (o : Judged) (v w : Verdict) → verdictOf o ≡ v → o ≡ J.Passed → w ≡ (v ⨾ w)
+pub seq-on : (o : Judged) (v w : Verdict) → judgedVerdict o ≡ v → o ≡ J.Passed → w ≡ (v ⨾ w)
 unfolding _⨾_
-seq-on o v w e p = let q : ok ≡ v = sym (ap verdictOf p) ∙ e in ap (λ x. x ⨾ w) q
+seq-on o v w e p = let q : ok ≡ v = sym (ap judgedVerdict p) ∙ e in ap (λ x. x ⨾ w) q
 
 -- ---- what an offer leaves
 module _ (m : Memory) (is : List ℕ) (ss : List Bool) (ns out : List ℕ) where
@@ -60,19 +60,19 @@ module _ (m : Memory) (is : List ℕ) (ss : List Bool) (ns out : List ℕ) where
   leaves-as r n p e =
       (λ i. record { answer = refused (p i .number) (p i .index); slotMarks = m .slotMarks; batch = m .batch; tallies = m .tallies; placed = out }) ∙ leaves-refused n 0 e
 
-  pub leaves-verdict : (o : Judged) (r : Refusal) → o ≡ J.Refused r → refusal (read m) (offer is ss ns out) ≡ verdictOf o
+  pub leaves-verdict : (o : Judged) (r : Refusal) → o ≡ J.Refused r → refusal (read m) (offer is ss ns out) ≡ judgedVerdict o
       → record { answer = refused (r .number) (r .index); slotMarks = m .slotMarks; batch = m .batch; tallies = m .tallies; placed = out } ≡ offerLeaves m is ss ns out
-  leaves-verdict o r p e = leaves-refused (r .number) (r .index) (e ∙ ap verdictOf p)
+  leaves-verdict o r p e = leaves-refused (r .number) (r .index) (e ∙ ap judgedVerdict p)
 
-  abbrev Taken : List ℕ
-  Taken = takenBy (read m) (updatesOf is ss ns)
+  abbrev NewLocations : List ℕ
+  NewLocations = takenBy (read m) (updatesOf is ss ns)
 
   leaves-granted : refusal (read m) (offer is ss ns out) ≡ ok → record {
-    answer = placed Taken;
-    slotMarks = takeSlots (m .slots) (slotsOf m) Taken .marks;
-    batch = keptWords (m .batch) is Taken;
-    tallies = takeSlots (m .slots) (slotsOf m) Taken .words;
-    placed = over Taken out;
+    answer = placed NewLocations;
+    slotMarks = takeSlots (m .slots) (slotsOf m) NewLocations .marks;
+    batch = keptWords (m .batch) is NewLocations;
+    tallies = takeSlots (m .slots) (slotsOf m) NewLocations .words;
+    placed = over NewLocations out;
   } ≡ offerLeaves m is ss ns out
   unfolding offerLeaves answer memoryAfter memoryEffect grant
   leaves-granted e = rw e
@@ -177,12 +177,12 @@ module _ (m : Memory) (is : List ℕ) (ss : List Bool) (ns out : List ℕ) where
       unfolding read
       leaves-done ls marks words b g p q k =
           let s = shaped e in
-          let r : placeIn (m .slots) (slotsOf m) ks ≡ Taken =
+          let r : placeIn (m .slots) (slotsOf m) ks ≡ NewLocations =
           ap (placeIn (m .slots) (slotsOf m)) κ ∙ place-read (m .slots) (s .good) is ss ns (slotsOf m) fit (s .stores) (s .lengths) in
-          let w : slotsIn marks words ≡ takeSlots (m .slots) (slotsOf m) Taken = q ∙ ap (takeSlots (m .slots) (slotsOf m)) r in
-          let l : length Taken ≡ length out = length-place (m .slots) (read m .slotMarks) (updatesOf is ss ns) ∙ length-updatesOf is ss ns (s .stores) (s .lengths) ∙ sym (s .list) in
-          let t : ls ≡ Taken = p ∙ ap (sets out 0) r ∙ sets-whole out Taken l in
-          let v : Taken ≡ over Taken out = sym (ap (λ n. Taken ++ drop n out) l ∙ ap (λ x. Taken ++ x) (drop-length out) ∙ append-nil Taken) in
+          let w : slotsIn marks words ≡ takeSlots (m .slots) (slotsOf m) NewLocations = q ∙ ap (takeSlots (m .slots) (slotsOf m)) r in
+          let l : length NewLocations ≡ length out = length-place (m .slots) (read m .slotMarks) (updatesOf is ss ns) ∙ length-updatesOf is ss ns (s .stores) (s .lengths) ∙ sym (s .list) in
+          let t : ls ≡ NewLocations = p ∙ ap (sets out 0) r ∙ sets-whole out NewLocations l in
+          let v : NewLocations ≡ over NewLocations out = sym (ap (λ n. NewLocations ++ drop n out) l ∙ ap (λ x. NewLocations ++ x) (drop-length out) ∙ append-nil NewLocations) in
           (λ i. record {
             answer = placed (t i);
             slotMarks = ap (λ (x : Slots). x .marks) w i;

@@ -1,4 +1,4 @@
--- The slots that are taken as the model has them: what the code finds with the hint is the model's spot, so that taking it in the tables is
+-- The slots that are found as the model has them: what the code finds with the hint is the model's spot, so that taking it in the tables is
 -- writing it in the marks as they count (Steps), and slot after slot the places are the model's. Assumes nothing.
 use mathlib.Core.Bool.{Bool, true, false, cond}
 use mathlib.Core.List.{List, [], _∷_, _++_, append-nil}
@@ -19,12 +19,12 @@ use Rattle.marks.specs.Marks.{firstFree, smallestFree}
 use Rattle.id_allocator.specs.Counted.{hinted, counted}
 use Rattle.id_allocator.proofs.LawsCounted.{counted-length, counted-smallestFree}
 use Rattle.model.specs.Batches.{updateOf, updatesOf, spot, spotFor, place}
-use Rattle.model.specs.Memory.{word, hintWords, waitingWords}
+use Rattle.model.specs.Memory.{getWord, hintWords, waitingWords}
 use Rattle.model.specs.MemoryAfter.{Slots, tookSlot, takeSlot}
 use Rattle.model.specs.Tables.{write, part}
 use Rattle.model.proofs.Slabs.{length-countedSlabs}
 use Rattle.model.proofs.Steps.{Fits, Stepped, slotsRead, still, fits-on, slab-read, part-long, took-read}
-use Rattle.model.proofs.Tables.{isLocation-packing, at-packing, write-set}
+use Rattle.model.proofs.Tables.{isLocation-packing, slotPlace-packing, write-set}
 use Rattle.tables.proofs.LawsEntries.{slabPart-is}
 use Rattle.offer_updates.specs.Kinds.{kindOf, kindsOf}
 use Rattle.offer_places.specs.Places.{nextIn, spotIn, placeIn}
@@ -45,15 +45,15 @@ module _ (cap : ℕ) (s : Slots) (f : Fits cap s) (good : badSlots cap ≡ false
 
   next-first : k < slabs → firstFree (part cap t k) ≡ j
   next-first h = sym (
-      ap (λ x. smallestFree 0 (hinted (word (s .words) hintWords (k + 1)) x)) (slabPart-is cap k (s .marks) h good)
-      ∙ ap (λ a. smallestFree 0 (hinted (word (s .words) hintWords a) (part cap (s .marks) k))) (add-one k)
-      ∙ sym (counted-smallestFree (word (s .words) hintWords (suc k)) (word (s .words) waitingWords (suc k)) (part cap (s .marks) k) 0)
-      ∙ zero-add (firstFree (counted (word (s .words) hintWords (suc k)) (word (s .words) waitingWords (suc k)) (part cap (s .marks) k)))
+      ap (λ x. smallestFree 0 (hinted (getWord (s .words) hintWords (k + 1)) x)) (slabPart-is cap k (s .marks) h good)
+      ∙ ap (λ a. smallestFree 0 (hinted (getWord (s .words) hintWords a) (part cap (s .marks) k))) (add-one k)
+      ∙ sym (counted-smallestFree (getWord (s .words) hintWords (suc k)) (getWord (s .words) waitingWords (suc k)) (part cap (s .marks) k) 0)
+      ∙ zero-add (firstFree (counted (getWord (s .words) hintWords (suc k)) (getWord (s .words) waitingWords (suc k)) (part cap (s .marks) k)))
       ∙ ap firstFree (sym (slab-read cap s f k h)))
 
   part-cap : k < slabs → length (part cap t k) ≡ cap
   part-cap h =
-      ap length (slab-read cap s f k h) ∙ counted-length (word (s .words) hintWords (suc k)) (word (s .words) waitingWords (suc k)) (part cap (s .marks) k)
+      ap length (slab-read cap s f k h) ∙ counted-length (getWord (s .words) hintWords (suc k)) (getWord (s .words) waitingWords (suc k)) (part cap (s .marks) k)
       ∙ part-long cap s f k h .1
 
   -- a slot of the slab is found by both
@@ -92,13 +92,13 @@ module _ (cap : ℕ) (s : Slots) (f : Fits cap s) (good : badSlots cap ≡ false
 
   -- taking it is writing it
   pub spot-taken : Stepped cap s (takeSlot cap s (spotIn cap s k)) (write cap (spotIn cap s k) 1 t)
-  spot-taken = ⊎-elim (λ z. at-spot 0 (z .0) (still cap s)) (λ (q : Found). at-spot (packing k j) (q .code) (taken q)) spots
+  spot-taken = ⊎-elim (λ z. at-spot 0 (z .0) (still cap s)) (λ (q : Found). at-spot (packing k j) (q .code) (found q)) spots
     where
       at-spot : (l : ℕ) → spotIn cap s k ≡ l → Stepped cap s (takeSlot cap s l) (write cap l 1 t) → Stepped cap s (takeSlot cap s (spotIn cap s k)) (write cap (spotIn cap s k) 1 t)
       at-spot l e r = subst (λ x. Stepped cap s (takeSlot cap s x) (write cap x 1 t)) (sym e) r
 
-      taken : Found → Stepped cap s (takeSlot cap s (packing k j)) (write cap (packing k j) 1 t)
-      taken q =
+      found : Found → Stepped cap s (takeSlot cap s (packing k j)) (write cap (packing k j) 1 t)
+      found q =
           let hj : j < cap = q .slot in
           let hk : k < 78 = q .slab in
           let c : cap ≤ 65536 = f .high in
@@ -107,7 +107,7 @@ module _ (cap : ℕ) (s : Slots) (f : Fits cap s) (good : badSlots cap ≡ false
           let r : packing k j % unit ≡ j = omega arith in
           let te : takeSlot cap s (packing k j) ≡ tookSlot cap s (suc k) j =
           ap (λ b. cond b (tookSlot cap s (packing k j / unit) (packing k j % unit)) s) v ∙ (λ i. tookSlot cap s (d i) (r i)) in
-          let we : write cap (packing k j) 1 t ≡ set t (k * cap + j) 1 = write-set cap (packing k j) 1 t v ∙ ap (λ p. set t p 1) (at-packing cap k j c hj) in
+          let we : write cap (packing k j) 1 t ≡ set t (k * cap + j) 1 = write-set cap (packing k j) 1 t v ∙ ap (λ p. set t p 1) (slotPlace-packing cap k j c hj) in
           let x = took-read cap s k j f hk hj (sym (next-first hk)) in
           subst (λ y. Stepped cap s y (write cap (packing k j) 1 t)) (sym te) (subst (λ y. Stepped cap s (tookSlot cap s (suc k) j) y) (sym we) x)
 

@@ -18,7 +18,7 @@ use Rattle.id_allocator.specs.Counted.{hinted}
 use Rattle.marks.specs.Turned.{isMark}
 use Rattle.id_allocator.proofs.LawsCounted.{counted-free}
 use Rattle.model.specs.Batches.{updateOf, updatesOf, asks, asked, room}
-use Rattle.model.specs.Memory.{word, hintWords, waitingWords}
+use Rattle.model.specs.Memory.{getWord, hintWords, waitingWords}
 use Rattle.model.specs.MemoryAfter.{Slots}
 use Rattle.model.specs.Tables.{bump, part}
 use Rattle.model.specs.Verdict.{test, _⨾_}
@@ -72,9 +72,9 @@ module _ (cap : ℕ) (s : Slots) (f : Fits cap s) (good : badSlots cap ≡ false
   freeIn-read : (k : ℕ) → k < 78 → freeIn cap (s .marks) (s .words) k ≡ countIf isFree (part cap (slotsRead cap s) k)
   unfolding freeIn
   freeIn-read k h =
-      ap (λ x. countIf isFree (hinted (word (s .words) hintWords (k + 1)) x)) (slabPart-is cap k (s .marks) h good)
-      ∙ ap (λ a. countIf isFree (hinted (word (s .words) hintWords a) (part cap (s .marks) k))) (add-one k)
-      ∙ sym (counted-free (word (s .words) hintWords (suc k)) (word (s .words) waitingWords (suc k)) (part cap (s .marks) k))
+      ap (λ x. countIf isFree (hinted (getWord (s .words) hintWords (k + 1)) x)) (slabPart-is cap k (s .marks) h good)
+      ∙ ap (λ a. countIf isFree (hinted (getWord (s .words) hintWords a) (part cap (s .marks) k))) (add-one k)
+      ∙ sym (counted-free (getWord (s .words) hintWords (suc k)) (getWord (s .words) waitingWords (suc k)) (part cap (s .marks) k))
       ∙ ap (countIf isFree) (sym (slab-read cap s f k h))
 
   pub room-read : (is : List ℕ) (ss : List Bool) (ns : List ℕ) → length ss ≡ length is → length ns ≡ length is → length is ≤ 256 → (n k : ℕ) → k + n ≤ 78

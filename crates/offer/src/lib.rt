@@ -14,7 +14,7 @@ ghost use mathlib.Core.List.{[]};
 ghost use Rattle.model.specs.Verdict.{_⨾_};
 ghost use Rattle.model.specs.Memory.{memoryOf};
 ghost use Rattle.offer.specs.Outcome.{answerOf, Left, offerLeaves};
-ghost use Rattle.tables.specs.Verdicts.{verdictOf};
+ghost use Rattle.tables.specs.Verdicts.{judgedVerdict};
 ghost use Rattle.offer.specs.Verdicts.{offerFits};
 ghost use Rattle.offer_updates.specs.Kinds.{checkIn};
 ghost use Rattle.offer_room.specs.Room.{roomIn, tallied, noneAsked};
@@ -73,7 +73,7 @@ fn refused(
     ids: &[u64],
     slabs: &[usize],
 ) -> Judged
-    ensures { λ r. ⌜ verdictOf r ≡ (checkIn (memoryOf (caps .ids) (caps .slots) (now («id_marks» .entry)) (now (locations .entry)) (now («slot_marks» .entry)) (now (owners .entry)) [] (now (tallies .entry))) [] 0 (now (ids .entry)) (now (slabs .entry)) ⨾ roomIn (caps .slots) (now («slot_marks» .entry)) (now (tallies .entry)) (tallied noneAsked (now (slabs .entry))) 78 0) ⌝ }
+    ensures { λ r. ⌜ judgedVerdict r ≡ (checkIn (memoryOf (caps .ids) (caps .slots) (now («id_marks» .entry)) (now (locations .entry)) (now («slot_marks» .entry)) (now (owners .entry)) [] (now (tallies .entry))) [] 0 (now (ids .entry)) (now (slabs .entry)) ⨾ roomIn (caps .slots) (now («slot_marks» .entry)) (now (tallies .entry)) (tallied noneAsked (now (slabs .entry))) 78 0) ⌝ }
 {
     let slots = caps.slots;
     let checked = offer_updates::check(

@@ -18,7 +18,7 @@ use Rattle.address.specs.declared.Unpacked.the-variants as U
 use Rattle.address.proofs.Laws.{unpacked-at, slots-range}
 use Rattle.marks.specs.Marks.{smallestFree}
 use Rattle.id_allocator.specs.Counted.{hinted}
-use Rattle.model.specs.Memory.{word, hintWords}
+use Rattle.model.specs.Memory.{getWord, hintWords}
 use Rattle.model.specs.MemoryAfter.{Slots, tookSlot, takeSlot, takeSlots}
 use Rattle.model.specs.Tables.{bump}
 use Rattle.model.proofs.Tables.{isLocation-packing, isLocation-nz}
@@ -30,7 +30,7 @@ pub spotIn-none : (cap : ℕ) (s : Slots) (k : ℕ) → slabs ≤ k → spotIn c
 unfolding spotIn
 spotIn-none cap s k h = rw (le-ltb k slabs h)
 
-pub spotIn-at : (cap : ℕ) (s : Slots) (k j hint : ℕ) (p : List ℕ) (q : Packed) → k < slabs → hint ≡ word (s .words) hintWords (k + 1)
+pub spotIn-at : (cap : ℕ) (s : Slots) (k j hint : ℕ) (p : List ℕ) (q : Packed) → k < slabs → hint ≡ getWord (s .words) hintWords (k + 1)
     → p ≡ slabPart cap (s .marks) k → j ≡ smallestFree 0 (hinted hint p) → q ≡ packed cap (record { slab = k; slot = j }) → spotIn cap s k ≡ locationIn q
 unfolding spotIn
 spotIn-at cap s k j hint p q h a b c d =

@@ -9,7 +9,7 @@ use Rattle.address.specs.declared.Packed.{Packed}
 use Rattle.address.specs.declared.Packed.the-variants as P
 use Rattle.marks.specs.Marks.{smallestFree}
 use Rattle.id_allocator.specs.Counted.{hinted}
-use Rattle.model.specs.Memory.{word, hintWords}
+use Rattle.model.specs.Memory.{getWord, hintWords}
 use Rattle.model.specs.MemoryAfter.{Slots, takeSlot}
 use Rattle.tables.specs.Entries.{slabPart}
 
@@ -22,7 +22,7 @@ locationIn (P.Refused r) = 0
 
 -- slab k's smallest free slot
 abbrev pub nextIn : ℕ → Slots → ℕ → ℕ
-nextIn cap s k = smallestFree 0 (hinted (word (s .words) hintWords (k + 1)) (slabPart cap (s .marks) k))
+nextIn cap s k = smallestFree 0 (hinted (getWord (s .words) hintWords (k + 1)) (slabPart cap (s .marks) k))
 
 -- its location; 0 where there is none
 unfoldable pub spotIn : ℕ → Slots → ℕ → ℕ

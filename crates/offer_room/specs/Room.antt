@@ -7,7 +7,7 @@ use lib.ListN.{getD, replicate}
 use Rattle.refusal.specs.Refusals.{noneFree}
 use Rattle.marks.specs.Marks.{isFree, countIf}
 use Rattle.id_allocator.specs.Counted.{hinted}
-use Rattle.model.specs.Memory.{word, hintWords}
+use Rattle.model.specs.Memory.{getWord, hintWords}
 use Rattle.model.specs.Tables.{bump}
 use Rattle.model.specs.Verdict.{Verdict, ok, _⨾_, test}
 use Rattle.tables.specs.Entries.{slabPart}
@@ -22,7 +22,7 @@ tallied t (k ∷ ks) = tallied (bump t k 1) ks
 
 -- how many slots of a slab are free
 unfoldable pub freeIn : ℕ → List ℕ → List ℕ → ℕ → ℕ
-freeIn cap marks words k = countIf isFree (hinted (word words hintWords (k + 1)) (slabPart cap marks k))
+freeIn cap marks words k = countIf isFree (hinted (getWord words hintWords (k + 1)) (slabPart cap marks k))
 
 -- n slabs from k on
 unfoldable pub roomIn : ℕ → List ℕ → List ℕ → List ℕ → ℕ → ℕ → Verdict

@@ -13,7 +13,7 @@ ghost use Prim.Native.Nat.{_≤_};
 ghost use lib.Dec.{ltb};
 ghost use Rattle.marks.specs.Marks.{isFree, countIf};
 ghost use Rattle.id_allocator.specs.Counted.{hinted};
-ghost use Rattle.tables.specs.Verdicts.{verdictOf};
+ghost use Rattle.tables.specs.Verdicts.{judgedVerdict};
 ghost use Rattle.offer_room.specs.Room.{freeIn, roomIn, tallied, noneAsked};
 use refusal::Refusal;
 use tables::HINT;
@@ -110,7 +110,7 @@ fn slab_lacks(slots: usize, slot_marks: &[u8], tallies: &[u64], slab: usize, ask
 }
 
 pub fn room(slots: usize, slot_marks: &[u8], tallies: &[u64], asked: &[u64]) -> Judged
-    ensures { λ r. ⌜ verdictOf r ≡ roomIn slots (now («slot_marks» .entry)) (now (tallies .entry)) (now (asked .entry)) 78 0 ⌝ }
+    ensures { λ r. ⌜ judgedVerdict r ≡ roomIn slots (now («slot_marks» .entry)) (now (tallies .entry)) (now (asked .entry)) 78 0 ⌝ }
 {
     let mut slab: usize = 0;
     while slab < SLABS {

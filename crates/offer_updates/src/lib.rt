@@ -16,7 +16,7 @@ ghost use lib.Seq.{sets};
 ghost use Rattle.model.specs.Tables.{elem};
 ghost use Rattle.model.specs.Memory.{memoryOf};
 ghost use Rattle.tables.specs.Entries.{heldIn, badIn};
-ghost use Rattle.tables.specs.Verdicts.{verdictOf};
+ghost use Rattle.tables.specs.Verdicts.{judgedVerdict};
 ghost use Rattle.offer_updates.specs.Kinds.{noKinds, kindOf, kindsOf, before, numberBy, checkIn};
 use refusal::Refusal;
 use sizes::Class;
@@ -31,7 +31,7 @@ use tables::held_id;
 // A Store whose object has no class, and a Free, among the slabs that updates ask for.
 const NO_CLASS: usize = SLABS;
 
-const FREED: usize = 79;
+const NO_SLAB: usize = 79;
 
 // Ids with the same remainder share a byte that says whether one of them was seen.
 const BUCKETS: u64 = 4096;
@@ -41,7 +41,7 @@ fn kind(store: bool, length: u64) -> usize
     ensures { λ r. ⌜ r ≡ kindOf store length ⌝ }
 {
     if !store {
-        return FREED;
+        return NO_SLAB;
     }
     match sizes::slab_for_size(length) {
         Class::Slab(slab) => slab,
@@ -53,7 +53,7 @@ fn kind(store: bool, length: u64) -> usize
 pub fn kinds(stores: &[bool], lengths: &[u64]) -> [usize; 256]
     ensures { λ r. ⌜ r ≡ sets noKinds 0 (kindsOf (now (stores .entry)) (now (lengths .entry))) ⌝ }
 {
-    let mut slabs = [FREED; 256];
+    let mut slabs = [NO_SLAB; 256];
     let mut i: usize = 0;
     while i < stores.len() {
         if lengths.len() <= i {
@@ -165,7 +165,7 @@ pub fn check(
     ids: &[u64],
     slabs: &[usize],
 ) -> Judged
-    ensures { λ r. ⌜ verdictOf r ≡ checkIn (memoryOf (caps .ids) (caps .slots) (now («id_marks» .entry)) (now (locations .entry)) (now («slot_marks» .entry)) (now (owners .entry)) [] (now (tallies .entry))) [] 0 (now (ids .entry)) (now (slabs .entry)) ⌝ }
+    ensures { λ r. ⌜ judgedVerdict r ≡ checkIn (memoryOf (caps .ids) (caps .slots) (now («id_marks» .entry)) (now (locations .entry)) (now («slot_marks» .entry)) (now (owners .entry)) [] (now (tallies .entry))) [] 0 (now (ids .entry)) (now (slabs .entry)) ⌝ }
 {
     let found = locations_of(locations, ids);
     let mut seen = [false; 4096];

@@ -21,7 +21,7 @@ use Rattle.model.specs.MemoryAfter.{memoryAfter, memoryEffect, memoryRebuilt, u
 use Rattle.tables.specs.Shapes.{allFit}
 use Rattle.tables.proofs.Lengths.{allFit-read}
 use Rattle.tables.proofs.Laws.{capacities-range}
-use Rattle.rebuild_rows.specs.Checks.{refusedRow, verdictOf}
+use Rattle.rebuild_rows.specs.Checks.{refusedRow, wrongVerdict}
 use Rattle.rebuild_rows.specs.declared.Wrong.{Wrong}
 use Rattle.rebuild_rows.proofs.Checked.{verdict-is, rows-length}
 
@@ -151,12 +151,12 @@ module _ (m : Memory) (is ls : List ℕ) where
       record { shape = l; ids-to = capacities-range (m .ids) (m .slots) (l .caps) .ids-to; good = not-true _ (and-true (not (badIds (m .ids))) (not (badSlots (m .slots))) (l .caps) .1); long = eqb-true _ _ (b .1) }
 
   module _ (e : fits ≡ true) (w : Wrong) (c : w ≡ refusedRow (m .ids) (m .slots) is ls) where
-    verdict : refusal (read m) (rebuild is ls) ≡ verdictOf w
+    verdict : refusal (read m) (rebuild is ls) ≡ wrongVerdict w
     unfolding test _⨾_ read
     verdict =
         let r = fits-rows e in
         rebuild-refusal ∙ ap (λ b. test (not b) wrongShape 0 ⨾ rows (read m) [] [] 0 (rowsOf is ls)) e
-        ∙ sym (verdict-is (read m) is ls (r .ids-to) (r .good) (r .long)) ∙ ap verdictOf (sym c)
+        ∙ sym (verdict-is (read m) is ls (r .ids-to) (r .good) (r .long)) ∙ ap wrongVerdict (sym c)
 
     pub rebuild-refused : (w .number ≡ 0 → ⊥) → (refused (w .number) (w .row) ≡ answer (read m) (rebuild is ls)) × (m ≡ memoryAfter m (rebuild is ls))
     unfolding answer memoryAfter

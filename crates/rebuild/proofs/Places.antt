@@ -11,14 +11,14 @@ use Rattle.address.specs.declared.SlabAddress.{SlabAddress}
 use Rattle.address.specs.declared.Unpacked.the-variants as U
 use Rattle.address.proofs.Laws.{slots-range, unpacked-at}
 use Rattle.model.specs.Memory.{putWord, usedWords, wordAt}
-use Rattle.model.specs.Tables.{at}
+use Rattle.model.specs.Tables.{slotPlace}
 use Rattle.rebuild_rows.specs.Checks.{isAt}
 use Rattle.rebuild_rows.proofs.Turns.{isAt-unpacked}
 
 pub record Place (slots location : ℕ) (a : SlabAddress) : Type 0 where
   pub is : isLocation slots location ≡ true
   pub top : a .slab + 1 ≡ location / unit
-  pub entry : a .slab * slots + a .slot ≡ at slots location
+  pub entry : a .slab * slots + a .slot ≡ slotPlace slots location
   pub fits : a .slab * slots + a .slot < 2 ^ 32
   pub few : a .slab < 78
 

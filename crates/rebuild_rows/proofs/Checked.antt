@@ -20,7 +20,7 @@ use Rattle.model.specs.Verdict.{Verdict, test, _⨾_}
 use Rattle.model.specs.Tables.{elem, inIds, locationsOf}
 use Rattle.model.specs.Rebuild.{rows, rowsOf}
 use Rattle.model.proofs.Tables.{zeros, elem-head, all}
-use Rattle.rebuild_rows.specs.Checks.{groups, wrong, wrongIn, firstWrong, decided, decidedBy, checked, refusedRow, repeatsFrom, verdictOf}
+use Rattle.rebuild_rows.specs.Checks.{groups, wrong, wrongIn, firstWrong, decided, decidedBy, checked, refusedRow, repeatsFrom, wrongVerdict}
 use Rattle.rebuild_rows.specs.declared.Wrong.{Wrong}
 use Rattle.rebuild_rows.proofs.Groups.{firstRepeat, places, repeats-are}
 
@@ -46,9 +46,9 @@ seen-none n x h = ap (λ z. not (eqb z 0)) (sym (zeros n x))
 abbrev number : Bool → Bool → Bool → ℕ
 number inside again place = cond (not inside) noSuchId (cond again repeatedId (cond place 0 outOfRange))
 
-step : (inside again place repeat : Bool) (i f : ℕ) (v : Verdict) (w : Wrong) → i + 1 ≤ w .row → v ≡ verdictOf (decided w f)
+step : (inside again place repeat : Bool) (i f : ℕ) (v : Verdict) (w : Wrong) → i + 1 ≤ w .row → v ≡ wrongVerdict (decided w f)
     → (test (not inside) noSuchId i ⨾ test again repeatedId i ⨾ test (not place) outOfRange i ⨾ test repeat repeatedLocation i ⨾ v)
-    ≡ verdictOf (decided (cond (eqb (number inside again place) 0) w (wrong i (number inside again place))) (cond (eqb (number inside again place) 0) (cond repeat i f) i))
+    ≡ wrongVerdict (decided (cond (eqb (number inside again place) 0) w (wrong i (number inside again place))) (cond (eqb (number inside again place) 0) (cond repeat i f) i))
 unfolding test _⨾_ decided
 step false again place repeat i f v w h e = rw (le-ltb i i (omega arith))
 step true true place repeat i f v w h e = rw (le-ltb i i (omega arith))
@@ -91,15 +91,15 @@ same-number s seen is r l t = go (inIds s (r .0)) refl
         ap (λ b. cond b repeatedId (cond (isLocation (s .slots) (r .1)) 0 outOfRange)) (t (r .0) (omega arith))
 
 rows-are : (s : Store) (seen is ls : List ℕ) (i : ℕ) (rs : List Row) → s .ids ≤ length seen → Seen seen is
-    → rows s is ls i rs ≡ verdictOf (decided (firstWrong (s .ids) (s .slots) seen i rs) (firstRepeat ls i (good (s .ids) (s .slots) seen rs)))
+    → rows s is ls i rs ≡ wrongVerdict (decided (firstWrong (s .ids) (s .slots) seen i rs) (firstRepeat ls i (good (s .ids) (s .slots) seen rs)))
 unfolding firstWrong decided
 rows-are s seen is ls i [] l t = rw (le-ltb i i (omega arith))
 rows-are s seen is ls i (r ∷ rs) l t =
     step (inIds s (r .0)) (elem (r .0) is) (isLocation (s .slots) (r .1)) (elem (r .1) ls) i (firstRepeat (r .1 ∷ ls) (i + 1) later) (rows s (r .0 ∷ is) (r .1 ∷ ls) (suc i) rs) w
     (firstWrong-ge (s .ids) (s .slots) (set seen (r .0) 1) (i + 1) rs)
     (ap (λ n. rows s (r .0 ∷ is) (r .1 ∷ ls) n rs) (sym (add-one i)) ∙ rows-are s (set seen (r .0) 1) (r .0 ∷ is) (r .1 ∷ ls) (i + 1) rs (rw (length-set seen (r .0) 1) l) (seen-next seen is (r .0) t))
-    ∙ ap (λ n. verdictOf (decided (cond (eqb n 0) w (wrong i n)) (cond (eqb n 0) (cond (elem (r .1) ls) i (firstRepeat (r .1 ∷ ls) (i + 1) later)) i))) (same-number s seen is r l t)
-    ∙ ap (λ f. verdictOf (decided (firstWrong (s .ids) (s .slots) seen i (r ∷ rs)) f)) (sym (pull (eqb (wrongIn (s .ids) (s .slots) seen (r .0) (r .1)) 0) ls i (r .1) later))
+    ∙ ap (λ n. wrongVerdict (decided (cond (eqb n 0) w (wrong i n)) (cond (eqb n 0) (cond (elem (r .1) ls) i (firstRepeat (r .1 ∷ ls) (i + 1) later)) i))) (same-number s seen is r l t)
+    ∙ ap (λ f. wrongVerdict (decided (firstWrong (s .ids) (s .slots) seen i (r ∷ rs)) f)) (sym (pull (eqb (wrongIn (s .ids) (s .slots) seen (r .0) (r .1)) 0) ls i (r .1) later))
   where
     later : List ℕ
     later = good (s .ids) (s .slots) (set seen (r .0) 1) rs
@@ -213,11 +213,11 @@ module _ (ids slots : ℕ) (is ls : List ℕ) where
 
 -- the first refused row gives the model's verdict
 pub verdict-is : (s : Store) (is ls : List ℕ) → s .ids ≤ 65536 → badSlots (s .slots) ≡ false → length ls ≡ length is
-    → verdictOf (refusedRow (s .ids) (s .slots) is ls) ≡ rows s [] [] 0 (rowsOf is ls)
+    → wrongVerdict (refusedRow (s .ids) (s .slots) is ls) ≡ rows s [] [] 0 (rowsOf is ls)
 unfolding checked
 verdict-is s is ls a b long =
-    ap verdictOf (refusedRow-fit (s .ids) (s .slots) is ls b long)
-    ∙ ap (λ x. verdictOf (decided (first (s .ids) (s .slots) is ls long) (repeatsFrom (s .slots) x groups 0 (length x)))) (fine-take (s .ids) (s .slots) is ls long)
-    ∙ ap (λ f. verdictOf (decided (first (s .ids) (s .slots) is ls long) f))
+    ap wrongVerdict (refusedRow-fit (s .ids) (s .slots) is ls b long)
+    ∙ ap (λ x. wrongVerdict (decided (first (s .ids) (s .slots) is ls long) (repeatsFrom (s .slots) x groups 0 (length x)))) (fine-take (s .ids) (s .slots) is ls long)
+    ∙ ap (λ f. wrongVerdict (decided (first (s .ids) (s .slots) is ls long) f))
     (repeats-are (s .slots) (fine (s .ids) (s .slots) is ls long) (good-places (s .ids) (s .slots) (replicate 65536 0) (rowsOf is ls)))
     ∙ sym (rows-are s (replicate 65536 0) [] [] 0 (rowsOf is ls) (rw (length-replicate {A = ℕ} 65536 0) a) (seen-none 65536))

@@ -88,8 +88,8 @@ repeatsFrom slots ls (suc n) g end = repeatsFrom slots ls n (g + 1) (repeatIn g 
 unfoldable pub decided : Wrong → ℕ → Wrong
 decided w repeat = cond (ltb repeat (w .row)) (wrong repeat repeatedLocation) w
 
-abbrev pub verdictOf : Wrong → Verdict
-verdictOf w = cond (eqb (w .number) 0) ok (refuse (w .number) (w .row))
+abbrev pub wrongVerdict : Wrong → Verdict
+wrongVerdict w = cond (eqb (w .number) 0) ok (refuse (w .number) (w .row))
 
 abbrev pub decidedBy : ℕ → List ℕ → Wrong → Wrong
 decidedBy slots ls w = decided w (repeatsFrom slots (take (w .row) ls) groups 0 (length (take (w .row) ls)))

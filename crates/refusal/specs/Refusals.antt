@@ -21,7 +21,7 @@ outOfRange = 3
 abbrev pub checkDiffers : ℕ
 checkDiffers = 4
 
--- a stored length, or an object to be written, beyond the room of its slot
+-- a stored length, or an object to be written, longer than its slot takes
 abbrev pub tooLong : ℕ
 tooLong = 5
 

@@ -21,7 +21,7 @@ impl Refusal {
     pub const OUT_OF_RANGE: u8 = 3;
     // The check differs.
     pub const CHECK_DIFFERS: u8 = 4;
-    // A stored length, or an object to be written, beyond the room of its slot.
+    // A stored length, or an object to be written, longer than its slot takes.
     pub const TOO_LONG: u8 = 5;
     // A cookie version that is not 1.
     pub const UNKNOWN_VERSION: u8 = 6;

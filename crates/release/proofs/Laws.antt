@@ -18,7 +18,7 @@ use Rattle.id_allocator.specs.Counted.{hinted}
 use Rattle.model.specs.Store.{done, release}
 use Rattle.model.specs.Tables.{part, bump, idMarksFit, slotMarksFit, batchFits, talliesFit}
 use Rattle.model.specs.Step.{refusal, grant, answer, answerBy}
-use Rattle.model.specs.Memory.{Memory, read, word, wordAt, putWord, freedWords, hintWords, waitingWords}
+use Rattle.model.specs.Memory.{Memory, read, getWord, wordAt, putWord, freedWords, hintWords, waitingWords}
 use Rattle.model.specs.MemoryAfter.{Slots, withIds, withSlots, releasedMarks, releasedWords, releaseSlabs, releaseIds, memoryEffect, memoryAfter}
 use Rattle.model.specs.Verdict.{_⨾_, test}
 use Rattle.model.proofs.Granted.{shape-ok}
@@ -61,12 +61,12 @@ waiting-marks hint zero ms h = absurd (h refl)
 waiting-marks hint (suc w) ms h = refl
 
 waiting-words : (g : List ℕ) (a w : ℕ) (ms : List ℕ) → (w ≡ 0 → ⊥)
-    → putWord (putWord (bump g (wordAt freedWords a) (countIf isPending (hinted (word g hintWords a) ms))) hintWords a 0) waitingWords a 0 ≡ releasedWords g a w ms
+    → putWord (putWord (bump g (wordAt freedWords a) (countIf isPending (hinted (getWord g hintWords a) ms))) hintWords a 0) waitingWords a 0 ≡ releasedWords g a w ms
 waiting-words g a zero ms h = absurd (h refl)
 waiting-words g a (suc w) ms h = refl
 
 -- the pending ones are counted as freed, then hint and waiting are 0
-pub released-words : (g counted unhinted after : List ℕ) (a w hint freed : ℕ) (ms : List ℕ) → (w ≡ 0 → ⊥) → hint ≡ word g hintWords a → freed ≡ countIf isPending (hinted hint ms)
+pub released-words : (g counted unhinted after : List ℕ) (a w hint freed : ℕ) (ms : List ℕ) → (w ≡ 0 → ⊥) → hint ≡ getWord g hintWords a → freed ≡ countIf isPending (hinted hint ms)
     → counted ≡ bump g (wordAt freedWords a) freed → unhinted ≡ putWord counted hintWords a 0 → after ≡ putWord unhinted waitingWords a 0 → after ≡ releasedWords g a w ms
 released-words g counted unhinted after a w hint freed ms h p f c u e =
     e ∙ ap (λ x. putWord x waitingWords a 0) (u ∙ ap (λ x. putWord x hintWords a 0) (c ∙ ap (bump g (wordAt freedWords a)) (f ∙ ap (λ x. countIf isPending (hinted x ms)) p)))
@@ -85,8 +85,8 @@ release-end cap n k s e = ap (λ x. releaseSlabs cap x k s) (sym e)
 
 -- one slab passed: what is left to do is the same
 pub release-turn : (cap k start : ℕ) (ms g ys g′ : List ℕ) → k < 78 → start ≡ k * cap
-    → ys ≡ releasedMarks (word g hintWords (k + 1)) (word g waitingWords (k + 1)) (take (start + cap - start) (drop start ms))
-    → g′ ≡ releasedWords g (k + 1) (word g waitingWords (k + 1)) (take (start + cap - start) (drop start ms))
+    → ys ≡ releasedMarks (getWord g hintWords (k + 1)) (getWord g waitingWords (k + 1)) (take (start + cap - start) (drop start ms))
+    → g′ ≡ releasedWords g (k + 1) (getWord g waitingWords (k + 1)) (take (start + cap - start) (drop start ms))
     → releaseSlabs cap (slabs - (k + 1)) (k + 1) (record { marks = putMid start (start + cap - start) ms ys; words = g′ })
     ≡ releaseSlabs cap (slabs - k) k (record { marks = ms; words = g })
 unfolding releaseSlabs
@@ -94,17 +94,17 @@ release-turn cap k start ms g ys g′ h s y w =
     let n : start + cap - start ≡ cap = omega arith in
     let e : slabs - k ≡ suc (slabs - (k + 1)) = omega arith in
     let old : Slots = record { marks = ms; words = g } in
-    let marks : ys ≡ releasedMarks (word g hintWords (suc k)) (word g waitingWords (suc k)) (part cap ms k) =
-    y ∙ λ i. releasedMarks (word g hintWords (add-one k i)) (word g waitingWords (add-one k i)) (take (n i) (drop (s i) ms)) in
-    let words : g′ ≡ releasedWords g (suc k) (word g waitingWords (suc k)) (part cap ms k) =
-    w ∙ λ i. releasedWords g (add-one k i) (word g waitingWords (add-one k i)) (take (n i) (drop (s i) ms)) in
+    let marks : ys ≡ releasedMarks (getWord g hintWords (suc k)) (getWord g waitingWords (suc k)) (part cap ms k) =
+    y ∙ λ i. releasedMarks (getWord g hintWords (add-one k i)) (getWord g waitingWords (add-one k i)) (take (n i) (drop (s i) ms)) in
+    let words : g′ ≡ releasedWords g (suc k) (getWord g waitingWords (suc k)) (part cap ms k) =
+    w ∙ λ i. releasedWords g (add-one k i) (getWord g waitingWords (add-one k i)) (take (n i) (drop (s i) ms)) in
     (λ i. releaseSlabs cap (slabs - (k + 1)) (add-one k i) (record { marks = putMid (s i) (n i) ms (marks i); words = words i }))
     ∙ ap (λ x. releaseSlabs cap x k old) (sym e)
 
 -- ---- the memory after a release
 pub release-after : (m : Memory) (ids g₁ : List ℕ) (s : Slots) → done ≡ answer (read m) release
-    → ids ≡ releasedMarks (word (m .tallies) hintWords 0) (word (m .tallies) waitingWords 0) (m .idMarks)
-    → g₁ ≡ releasedWords (m .tallies) 0 (word (m .tallies) waitingWords 0) (m .idMarks)
+    → ids ≡ releasedMarks (getWord (m .tallies) hintWords 0) (getWord (m .tallies) waitingWords 0) (m .idMarks)
+    → g₁ ≡ releasedWords (m .tallies) 0 (getWord (m .tallies) waitingWords 0) (m .idMarks)
     → s ≡ releaseSlabs (m .slots) slabs 0 (record { marks = m .slotMarks; words = g₁ })
     → withSlots (withIds m ids g₁) s ≡ memoryAfter m release
 unfolding memoryEffect

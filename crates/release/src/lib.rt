@@ -13,7 +13,7 @@ ghost use lib.ListN.{length};
 ghost use Rattle.address.specs.Address.{slabs};
 ghost use Rattle.model.specs.Store.{release};
 ghost use Rattle.model.specs.Step.{answer};
-ghost use Rattle.model.specs.Memory.{read, word, hintWords, waitingWords};
+ghost use Rattle.model.specs.Memory.{read, getWord, hintWords, waitingWords};
 ghost use Rattle.model.specs.MemoryAfter.{Slots, releasedMarks, releasedWords, releaseSlabs, memoryAfter};
 ghost use Rattle.release.specs.Releases.{releaseMemory, releasedAnswer};
 use refusal::Refusal;
@@ -55,8 +55,8 @@ fn granted(
 
 // What is pending in one allocator becomes free, and is counted.
 fn release_allocator(marks: &mut [u8], tallies: &mut [u64], allocator: usize)
-    ensures { λ _. ⌜ (now (marks .exit) ≡ releasedMarks (word (now (tallies .entry)) hintWords allocator) (word (now (tallies .entry)) waitingWords allocator) (now (marks .entry)))
-        × (now (tallies .exit) ≡ releasedWords (now (tallies .entry)) allocator (word (now (tallies .entry)) waitingWords allocator) (now (marks .entry))) ⌝ }
+    ensures { λ _. ⌜ (now (marks .exit) ≡ releasedMarks (getWord (now (tallies .entry)) hintWords allocator) (getWord (now (tallies .entry)) waitingWords allocator) (now (marks .entry)))
+        × (now (tallies .exit) ≡ releasedWords (now (tallies .entry)) allocator (getWord (now (tallies .entry)) waitingWords allocator) (now (marks .entry))) ⌝ }
 {
     if tables::get(tallies, tables::WAITING, allocator) == 0 {
         return;

@@ -15,7 +15,7 @@ use lib.Count.{trailingZeros, under}
 use lib.Pow.{shr-shr}
 use Rattle.refusal.specs.Refusals.{refusal, tooLarge}
 use Rattle.refusal.proofs.Tests.{clash, and-true, or-true, by-test, both-ways}
-use Rattle.sizes.specs.Sizes.{slabSizes, sizeOf, isIn, isSlabSize, slabs, fieldWidth, checkWidth, room, firstFit, slabFor, classOf}
+use Rattle.sizes.specs.Sizes.{slabSizes, sizeOf, isIn, isSlabSize, slabs, fieldWidth, checkWidth, longestObject, firstFit, slabFor, classOf}
 use Rattle.sizes.specs.OddPart.{goes}
 use Rattle.sizes.specs.declared.Class.the-variants.{Slab, Refused}
 
@@ -232,7 +232,7 @@ pub isSlabSize-far : (s : ℕ) → 35 ≤ trailingZeros 64 s → isSlabSize s �
 isSlabSize-far s p = by-test (isSlabSize s) (λ h. absurd (not-le-of-lt (slab-power s h) p)) (λ h. h)
 
 -- ---- frames
--- every slab has room for a frame, and for a byte
+-- every slab takes a frame, and a byte
 pub isSlabSize-least : (s : ℕ) → isSlabSize s ≡ true → 64 ≤ s
 unfolding isSlabSize slabSizes
 isSlabSize-least s h = leb-true _ _ (allIn-at (λ s. leb 64 s) slabSizes s refl h)
@@ -241,15 +241,15 @@ pub isSlabSize-most : (s : ℕ) → isSlabSize s ≡ true → s ≤ 17179869184
 unfolding isSlabSize slabSizes
 isSlabSize-most s h = leb-true _ _ (allIn-at (λ s. leb s 17179869184) slabSizes s refl h)
 
--- a slab's size is its room, its length field and its check
-pub room-frame : (s : ℕ) → isSlabSize s ≡ true → room s + fieldWidth s + checkWidth ≡ s
-unfolding room
-room-frame s h = omega (arith, isSlabSize-least s h, fieldWidth-le s)
+-- a slab's size is its longest object, its length field and its check
+pub longestObject-frame : (s : ℕ) → isSlabSize s ≡ true → longestObject s + fieldWidth s + checkWidth ≡ s
+unfolding longestObject
+longestObject-frame s h = omega (arith, isSlabSize-least s h, fieldWidth-le s)
 
--- a length that fits the room fits the length field
-pub room-lt : (s : ℕ) → s < 2 ^ 64 → room s < 256 ^ fieldWidth s
-unfolding room fieldWidth
-room-lt s h = by (leb s 255) (leb s 65535) (leb s 4294967295) refl refl refl
+-- a length of no more than the longest object fits the length field
+pub longestObject-lt : (s : ℕ) → s < 2 ^ 64 → longestObject s < 256 ^ fieldWidth s
+unfolding longestObject fieldWidth
+longestObject-lt s h = by (leb s 255) (leb s 65535) (leb s 4294967295) refl refl refl
   where
     by : (a b c : Bool) → leb s 255 ≡ a → leb s 65535 ≡ b → leb s 4294967295 ≡ c
         → s - (cond a 1 (cond b 2 (cond c 4 8)) + checkWidth) < 256 ^ cond a 1 (cond b 2 (cond c 4 8))

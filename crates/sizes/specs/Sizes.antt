@@ -46,8 +46,8 @@ abbrev pub checkWidth : ℕ
 checkWidth = 4
 
 -- the longest object that a slot of size s takes
-unfoldable pub room : ℕ → ℕ
-room s = s - (fieldWidth s + checkWidth)
+unfoldable pub longestObject : ℕ → ℕ
+longestObject s = s - (fieldWidth s + checkWidth)
 
 -- how many of the sizes come before the first that n bytes, their length field and their check fit
 unfoldable pub firstFit : ℕ → List ℕ → ℕ

@@ -8,7 +8,7 @@ ghost use mathlib.Core.Path.{_≡_};
 ghost use mathlib.Core.Bool.{_&&_};
 ghost use Prim.Native.Nat.{_+_, _≤_, _<_};
 ghost use lib.Dec.{leb};
-ghost use Rattle.sizes.specs.Sizes.{slabs, slabSizes, sizeOf, isSlabSize, fieldWidth, room, slabFor, classOf};
+ghost use Rattle.sizes.specs.Sizes.{slabs, slabSizes, sizeOf, isSlabSize, fieldWidth, longestObject, slabFor, classOf};
 ghost use Rattle.sizes.specs.OddPart.{goes};
 use refusal::Refusal;
 
@@ -145,8 +145,8 @@ pub fn field_width(s: u64) -> u64
 }
 
 // The longest object that a slot of size s takes; 0 where a frame does not fit.
-pub fn room_of(s: u64) -> u64
-    ensures { λ r. ⌜ r ≡ room s ⌝ }
+pub fn longest_object(s: u64) -> u64
+    ensures { λ r. ⌜ r ≡ longestObject s ⌝ }
 {
     let frame = field_width(s) + CHECK_WIDTH;
     if frame < s { s - frame } else { 0 }

@@ -3,6 +3,6 @@ use Rattle.model.specs.Verdict.{Verdict, ok, refuse}
 use Rattle.tables.specs.declared.Judged.{Judged}
 use Rattle.tables.specs.declared.Judged.the-variants as J
 
-abbrev pub verdictOf : Judged → Verdict
-verdictOf J.Passed = ok
-verdictOf (J.Refused r) = refuse (r .number) (r .index)
+abbrev pub judgedVerdict : Judged → Verdict
+judgedVerdict J.Passed = ok
+judgedVerdict (J.Refused r) = refuse (r .number) (r .index)

@@ -25,7 +25,7 @@ use Rattle.model.specs.Store.{refused, done, gave, keep, cut, truncation, repor
 use Rattle.model.specs.Tables.{part, capacities, slabTip, allocators}
 use Rattle.model.specs.Truncation.{isTarget, highMark, fill, cutAt, keeps, newLength, bytesGivenBack}
 use Rattle.model.specs.Step.{refusal, grant, answer, answerBy, unless, slabRefusal}
-use Rattle.model.specs.Memory.{Memory, read, word, putWord, countedBy, countedSlabs, usedWords, hintWords, waitingWords, highWords}
+use Rattle.model.specs.Memory.{Memory, read, getWord, putWord, countedBy, countedSlabs, usedWords, hintWords, waitingWords, highWords}
 use Rattle.model.specs.MemoryAfter.{withWords, raiseWord, memoryEffect, memoryAfter}
 use Rattle.model.specs.Verdict.{Verdict, ok, refuse, _⨾_, test}
 use Rattle.model.proofs.Slabs.{part-countedSlabs, length-countedSlabs}
@@ -73,12 +73,12 @@ unfolding isCut
 isCut-tip k high t zero e = let z : _≡_ {A = ℕ} 0 1 = cc in omega arith
 isCut-tip k high t (suc top) e = omega arith
 
-raiseWord-top : (g : List ℕ) (k tip : ℕ) → (tip ≡ 0 → ⊥) → raiseWord g k tip ≡ putWord g highWords k (max (word g highWords k) (tip - 1))
+raiseWord-top : (g : List ℕ) (k tip : ℕ) → (tip ≡ 0 → ⊥) → raiseWord g k tip ≡ putWord g highWords k (max (getWord g highWords k) (tip - 1))
 raiseWord-top g k zero h = absurd (h refl)
-raiseWord-top g k (suc top) h = let e : top ≡ suc top - 1 = omega arith in ap (λ x. putWord g highWords k (max (word g highWords k) x)) e
+raiseWord-top g k (suc top) h = let e : top ≡ suc top - 1 = omega arith in ap (λ x. putWord g highWords k (max (getWord g highWords k) x)) e
 
 -- the word that is read, the larger of it and the top, and the words with that
-pub raised : (g after : List ℕ) (k tip high top : ℕ) → (tip ≡ 0 → ⊥) → high ≡ word g highWords k → top ≡ max high (tip - 1) → after ≡ putWord g highWords k top
+pub raised : (g after : List ℕ) (k tip high top : ℕ) → (tip ≡ 0 → ⊥) → high ≡ getWord g highWords k → top ≡ max high (tip - 1) → after ≡ putWord g highWords k top
     → after ≡ raiseWord g k tip
 raised g after k tip high top h p q r = r ∙ ap (putWord g highWords k) (q ∙ ap (λ x. max x (tip - 1)) p) ∙ sym (raiseWord-top g k tip h)
 
@@ -114,7 +114,7 @@ slabFits-says ids slots marks batch tallies e =
 
 -- ---- what is read
 module _ (m : Memory) (k : ℕ) where
-  pub high-read : highMark (read m) k ≡ word (m .tallies) highWords k
+  pub high-read : highMark (read m) k ≡ getWord (m .tallies) highWords k
   unfolding read
   high-read = getD-drop 395 (m .tallies) k 0
 
@@ -124,7 +124,7 @@ module _ (m : Memory) (k : ℕ) where
   -- the tests, on lengths and words
   pub slabRefusal-read : (t : ℕ) → slabRefusal (read m) k t
       ≡ (test (not fits) wrongShape 0 ⨾ test (ltb 0 (getD (m .batch) 0 0)) batchOpen 0 ⨾
-      test (leb slabs k || leb (m .slots) (word (m .tallies) highWords k)) outOfRange 0 ⨾ test (not (isTarget t)) ratioOutOfRange 0)
+      test (leb slabs k || leb (m .slots) (getWord (m .tallies) highWords k)) outOfRange 0 ⨾ test (not (isTarget t)) ratioOutOfRange 0)
   unfolding read
   slabRefusal-read t = λ i.
       test (not (slabFits-read m i)) wrongShape 0 ⨾ test (ltb 0 (getD (m .batch) 0 0)) batchOpen 0 ⨾
@@ -156,14 +156,14 @@ module _ (m : Memory) (k : ℕ) where
         unfolding test _⨾_
         ask-slab h = slabRefusal-read t ∙ simp (fit, shut, le-leb 78 k h)
 
-        module _ (below : k < 78) (high : ℕ) (q : high ≡ word (m .tallies) highWords k) where
+        module _ (below : k < 78) (high : ℕ) (q : high ≡ getWord (m .tallies) highWords k) where
           pub ask-high : m .slots ≤ high → slabRefusal (read m) k t ≡ refuse outOfRange 0
           unfolding test _⨾_
-          ask-high h = let past : m .slots ≤ word (m .tallies) highWords k = omega (arith, q, h) in slabRefusal-read t ∙ simp (fit, shut, lt-leb 78 k below, le-leb _ _ past)
+          ask-high h = let past : m .slots ≤ getWord (m .tallies) highWords k = omega (arith, q, h) in slabRefusal-read t ∙ simp (fit, shut, lt-leb 78 k below, le-leb _ _ past)
 
           module _ (h : high < m .slots) (g : Bool) (r : g ≡ isTarget t) where
-            low : leb (m .slots) (word (m .tallies) highWords k) ≡ false
-            low = lt-leb (m .slots) (word (m .tallies) highWords k) (omega (arith, q, h))
+            low : leb (m .slots) (getWord (m .tallies) highWords k) ≡ false
+            low = lt-leb (m .slots) (getWord (m .tallies) highWords k) (omega (arith, q, h))
 
             pub ask-target : not g ≡ true → slabRefusal (read m) k t ≡ refuse ratioOutOfRange 0
             unfolding test _⨾_
@@ -175,7 +175,7 @@ module _ (m : Memory) (k : ℕ) where
 
   -- the tip, by the slab's own marks and words
   pub slabTip-read : k < 78 → length (m .slotMarks) ≡ slabs * m .slots
-      → slabTip (read m) k ≡ tip (hinted (word (m .tallies) hintWords (suc k)) (part (m .slots) (m .slotMarks) k)) (word (m .tallies) usedWords (suc k))
+      → slabTip (read m) k ≡ tip (hinted (getWord (m .tallies) hintWords (suc k)) (part (m .slots) (m .slotMarks) k)) (getWord (m .tallies) usedWords (suc k))
   unfolding read
   slabTip-read hk l =
       let g = m .tallies in
@@ -183,7 +183,7 @@ module _ (m : Memory) (k : ℕ) where
       let p : part (m .slots) (countedSlabs (m .slots) g slabs 0 (m .slotMarks)) k ≡ countedBy g (suc k) (part (m .slots) (m .slotMarks) k) =
       rw z at (part-countedSlabs (m .slots) g slabs 0 (m .slotMarks) k l hk) in
       (λ i. tip (p i) (part-at allocators g usedWords (suc k) (omega arith) i))
-      ∙ counted-tip (word g hintWords (suc k)) (word g waitingWords (suc k)) (part (m .slots) (m .slotMarks) k) (word g usedWords (suc k))
+      ∙ counted-tip (getWord g hintWords (suc k)) (getWord g waitingWords (suc k)) (part (m .slots) (m .slotMarks) k) (getWord g usedWords (suc k))
 
   slabTip-le : (s : SlabFits (m .ids) (m .slots) (length (m .slotMarks)) (length (m .tallies))) → k < 78 → slabTip (read m) k ≤ 65536
   unfolding read
@@ -203,7 +203,7 @@ pub record AskedTip (m : Memory) (k t tip : ℕ) : Type 0 where
   pub fine : slabRefusal (read m) k t ≡ ok
   pub is : tip ≡ slabTip (read m) k
   pub slab : k < 78
-  pub high : word (m .tallies) highWords k < 65536
+  pub high : getWord (m .tallies) highWords k < 65536
   pub small : tip ≤ 65536
 
 pub asked-tip : (m : Memory) (k t tip : ℕ) → gave tip ≡ answerBy (slabRefusal (read m) k t) (gave (slabTip (read m) k)) → AskedTip m k t tip
@@ -213,14 +213,14 @@ asked-tip m k t tip e = go (slabRefusal (read m) k t) refl e
     go ok p e =
         let q = sym (slabRefusal-read m k t) ∙ p in
         let f = slabFits-says _ _ _ _ _ (not-false _ (test-ok _ _ _ (first-ok _ _ q))) in
-        let o = or-false (leb slabs k) (leb (m .slots) (word (m .tallies) highWords k)) (test-ok _ _ _ (first-ok _ _ (then-ok _ _ (then-ok _ _ q)))) in
+        let o = or-false (leb slabs k) (leb (m .slots) (getWord (m .tallies) highWords k)) (test-ok _ _ _ (first-ok _ _ (then-ok _ _ (then-ok _ _ q)))) in
         let is : tip ≡ slabTip (read m) k = cc in
         let slab : k < 78 = leb-false slabs k (o .0) in
         record {
           fine = p;
           is = is;
           slab = slab;
-          high = omega (arith, leb-false (m .slots) (word (m .tallies) highWords k) (o .1), f .range .slots-to);
+          high = omega (arith, leb-false (m .slots) (getWord (m .tallies) highWords k) (o .1), f .range .slots-to);
           small = omega (arith, slabTip-le m k f slab);
         }
     go (refuse n i) p e = let z : _≡_ {A = ℕ} 0 1 = cc in absurd (omega arith)
@@ -230,7 +230,7 @@ module _ (m : Memory) (k t tip : ℕ) (a : AskedTip m k t tip) where
   g = m .tallies
 
   abbrev pub cuts : Bool
-  cuts = isCut k (word g highWords k) t tip
+  cuts = isCut k (getWord g highWords k) t tip
 
   cut-read : cutAt (read m) k t (slabTip (read m) k) ≡ cond cuts (cutWith k tip) keep
   cut-read = (λ i. cutAt (read m) k t (sym (a .is) i)) ∙ cutAt-is (read m) k t tip ∙ ap (λ h. cond (isCut k h t tip) (cutWith k tip) keep) (high-read m k)

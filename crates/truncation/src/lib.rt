@@ -18,7 +18,7 @@ ghost use Rattle.model.specs.Store.{truncation, report, gave};
 ghost use Rattle.model.specs.Tables.{part, slabTip};
 ghost use Rattle.model.specs.Truncation.{isTarget, fill, newLength};
 ghost use Rattle.model.specs.Step.{answer, answerBy, slabRefusal};
-ghost use Rattle.model.specs.Memory.{read, word, usedWords, hintWords};
+ghost use Rattle.model.specs.Memory.{read, getWord, usedWords, hintWords};
 ghost use Rattle.model.specs.MemoryAfter.{raiseWord, memoryAfter};
 ghost use Rattle.truncation.specs.Truncations.{slabMemory, askedAnswer, truncatedAnswer, reportedAnswer, isCut, cutWith};
 use refusal::Refusal;
@@ -119,7 +119,7 @@ fn cut_of(slab: usize, tip: usize) -> Truncated
 // The tip of a slab.
 fn slab_tip(slots: usize, slot_marks: &[u8], tallies: &[u64], slab: usize) -> usize
     requires { ⌜ (slab < 78) × (slots ≤ 65536) × (length (now «slot_marks») ≡ 78 * slots) ⌝ }
-    ensures { λ r. ⌜ r ≡ tip (hinted (word (now (tallies .entry)) hintWords (suc slab)) (part slots (now («slot_marks» .entry)) slab)) (word (now (tallies .entry)) usedWords (suc slab)) ⌝ }
+    ensures { λ r. ⌜ r ≡ tip (hinted (getWord (now (tallies .entry)) hintWords (suc slab)) (part slots (now («slot_marks» .entry)) slab)) (getWord (now (tallies .entry)) usedWords (suc slab)) ⌝ }
 {
     let start = slab * slots;
     let end = start + slots;

@@ -47,7 +47,7 @@ impl BothLeaves<'_> {
     }
 }
 
-fn room(size: u64) -> u64 {
+fn longest_object(size: u64) -> u64 {
     size - tail_bytes(size as usize) as u64
 }
 
@@ -56,7 +56,7 @@ pub fn numbers(counts: &mut Counts, chance: &mut Chance) {
     let mut lengths: Vec<u64> = (0..300).collect();
     for size in SLAB_SIZES {
         lengths.extend(size - 16..size + 17);
-        lengths.extend(room(size) - 16..room(size) + 17);
+        lengths.extend(longest_object(size) - 16..longest_object(size) + 17);
     }
     lengths.extend((0..64).flat_map(|power| [(1 << power) - 1, 1 << power, (1 << power) + 1]));
     lengths.extend((0..5_000).map(|_| { let bits = chance.among(1, 63); chance.word() >> bits }));
@@ -84,7 +84,7 @@ pub fn numbers(counts: &mut Counts, chance: &mut Chance) {
 pub fn frames(counts: &mut Counts, chance: &mut Chance, count: u64) {
     let mut both = BothLeaves { rust: Leaves::new(), counts };
     for size in SLAB_SIZES.into_iter().filter(|size| *size <= LARGEST_SLOT_BUILT) {
-        let room = room(size);
+        let room = longest_object(size);
         for _ in 0..if size > 16_384 { count / 10 + 1 } else { count } {
             let anywhere = chance.among(0, room);
             let length = chance.of(&[0, 1, room, room - 1, anywhere, anywhere]);

@@ -5,13 +5,13 @@ use mathlib.Core.Bool.{true, false}
 use Prim.Native.Nat.{_-_, _≤_}
 use native.Mathlib.Nat.{sub-zero}
 use native.Mathlib.Omega.{arith}
-use Rattle.batch_kept.specs.Kept.{firstBad, rowsFrom, rowOutOfRange}
+use Rattle.batch_kept.specs.Kept.{firstBad, keptFrom, badKeptRow}
 use Rattle.batch_kept.proofs.Laws.{row-read, firstBad-here, firstBad-next, firstBad-none}
 use Rattle.abandon.proofs.check_rows.Statement.{statement}
 use Rattle.abandon.proofs.check_rows.Tie as tie
 
 abbrev Inv-loop : tie.InvT-loop
-Inv-loop batch n ids slots i₀ i = (i ≤ n) × (firstBad (rowOutOfRange ids slots) 0 (rowsFrom batch n 0) ≡ firstBad (rowOutOfRange ids slots) i (rowsFrom batch (n - i) i))
+Inv-loop batch n ids slots i₀ i = (i ≤ n) × (firstBad (badKeptRow ids slots) 0 (keptFrom batch n 0) ≡ firstBad (badKeptRow ids slots) i (keptFrom batch (n - i) i))
 
 abbrev μ-loop : tie.MeasureT-loop
 μ-loop batch n ids slots i₀ i = n - i
@@ -25,8 +25,8 @@ get-requires c κs = search
 get-requires-2 : tie.Need-get-requires-2 Inv-loop μ-loop
 get-requires-2 c κs = search
 
-out-of-range-requires : tie.Need-out-of-range-requires Inv-loop μ-loop
-out-of-range-requires c κs = search
+bad-kept-requires : tie.Need-bad-kept-requires Inv-loop μ-loop
+bad-kept-requires c κs = search
 
 at-requires : tie.Need-at-requires Inv-loop μ-loop
 at-requires c κs = search
@@ -35,8 +35,8 @@ returns : tie.Need-returns Inv-loop μ-loop
 returns c =
     let a = c .before .before .before .before .before .before .before .before .args in
     let i = c .before .before .before .before .before .before .loop .i in
-    let f = rowOutOfRange (a .caps .ids) (a .caps .slots) in
-    let bad = row-read f _ _ _ _ _ true (c .before .before .before .before .get .ensures) (c .before .before .before .get2 .ensures) (c .before .before .out-of-range .ensures) (c .before .if1 .taken) in
+    let f = badKeptRow (a .caps .ids) (a .caps .slots) in
+    let bad = row-read f _ _ _ _ _ true (c .before .before .before .before .get .ensures) (c .before .before .before .get2 .ensures) (c .before .before .bad-kept .ensures) (c .before .if1 .taken) in
     simp (c .at .ensures, c .before .before .before .before .before .before .loop .inv .1, firstBad-here f (a .batch .now) (a .n) i (c .before .before .before .before .before .loop-test .taken) bad)
 
 add-i : tie.Need-add-i Inv-loop μ-loop
@@ -49,14 +49,14 @@ loop-again : tie.Need-loop-again Inv-loop μ-loop
 loop-again c =
     let a = c .before .before .before .before .before .before .before .args in
     let i = c .before .before .before .before .before .loop .i in
-    let f = rowOutOfRange (a .caps .ids) (a .caps .slots) in
-    let good = row-read f _ _ _ _ _ false (c .before .before .before .get .ensures) (c .before .before .get2 .ensures) (c .before .out-of-range .ensures) (c .if1 .left) in
+    let f = badKeptRow (a .caps .ids) (a .caps .slots) in
+    let good = row-read f _ _ _ _ _ false (c .before .before .before .get .ensures) (c .before .before .get2 .ensures) (c .before .bad-kept .ensures) (c .if1 .left) in
     (omega arith, c .before .before .before .before .before .loop .inv .1 ∙ firstBad-next f (a .batch .now) (a .n) i (c .before .before .before .before .loop-test .taken) good)
 
 returns-2 : tie.Need-returns-2 Inv-loop μ-loop
 returns-2 c =
     let a = c .before .before .before .args in
-    simp (c .before .loop .inv .1, firstBad-none (rowOutOfRange (a .caps .ids) (a .caps .slots)) (a .batch .now) (a .n) (c .before .loop .i) (c .loop-test .left))
+    simp (c .before .loop .inv .1, firstBad-none (badKeptRow (a .caps .ids) (a .caps .slots)) (a .batch .now) (a .n) (c .before .loop .i) (c .loop-test .left))
 
 pub check-rows-spec : {M : Type 1} → statement M
 check-rows-spec =
@@ -67,7 +67,7 @@ check-rows-spec =
     loop-holds
     get-requires
     get-requires-2
-    out-of-range-requires
+    bad-kept-requires
     at-requires
     returns
     add-i

@@ -8,7 +8,7 @@ use native.Mathlib.Omega.{arith}
 use lib.ListN.{length}
 use Rattle.model.specs.Tables.{locationsOf}
 use Rattle.model.specs.MemoryAfter.{Slots, giveSlot, giveSlots}
-use Rattle.batch_kept.specs.Kept.{rowsFrom}
+use Rattle.batch_kept.specs.Kept.{keptFrom}
 use Rattle.abandon.proofs.Laws.{give-next, give-none}
 use Rattle.abandon.proofs.give_slots.Statement.{statement}
 use Rattle.abandon.proofs.give_slots.Tie as tie
@@ -18,8 +18,8 @@ Inv-loop slots slot-marks₀ batch tallies₀ n i₀ slot-marks tallies i =
     (i ≤ n)
     × (length slot-marks ≡ length slot-marks₀)
     × (length tallies ≡ length tallies₀)
-    × (giveSlots slots (record { marks = slot-marks; words = tallies }) (locationsOf (rowsFrom batch (n - i) i))
-    ≡ giveSlots slots (record { marks = slot-marks₀; words = tallies₀ }) (locationsOf (rowsFrom batch n 0)))
+    × (giveSlots slots (record { marks = slot-marks; words = tallies }) (locationsOf (keptFrom batch (n - i) i))
+    ≡ giveSlots slots (record { marks = slot-marks₀; words = tallies₀ }) (locationsOf (keptFrom batch n 0)))
 
 abbrev μ-loop : tie.MeasureT-loop
 μ-loop slots slot-marks₀ batch tallies₀ n i₀ slot-marks tallies i = n - i
@@ -47,7 +47,7 @@ loop-again c =
       omega arith,
       omega arith,
       omega arith,
-      ap (λ (x : Slots). giveSlots (a .slots) x (locationsOf (rowsFrom (a .batch .now) (a .n - (l .i + 1)) (l .i + 1))))
+      ap (λ (x : Slots). giveSlots (a .slots) x (locationsOf (keptFrom (a .batch .now) (a .n - (l .i + 1)) (l .i + 1))))
           (c .before .before .before .before .give-slot .ensures ∙ ap (λ (x : ℕ). giveSlot (a .slots) s x) (c .before .before .before .before .before .before .before .get .ensures))
           ∙ sym (give-next (a .slots) s (a .batch .now) (a .n) (l .i) (c .before .before .before .before .before .before .before .before .loop-test .taken)) ∙ l .inv .3,
     )

@@ -7,7 +7,7 @@ use native.Mathlib.Omega.{arith}
 use lib.ListN.{length}
 use Rattle.model.specs.Memory.{Memory, memoryOf}
 use Rattle.model.specs.MemoryAfter.{commitAll}
-use Rattle.batch_kept.specs.Kept.{rowsFrom}
+use Rattle.batch_kept.specs.Kept.{keptFrom}
 use Rattle.commit.proofs.LawsApply.{commit-turn, commit-none}
 use Rattle.commit.proofs.apply_rows.Statement.{statement}
 use Rattle.commit.proofs.apply_rows.Tie as tie
@@ -27,8 +27,8 @@ Inv-loop caps id-marks₀ locations₀ slot-marks₀ owners₀ batch tallies₀ 
     × (length slot-marks ≡ length slot-marks₀)
     × (length owners ≡ length owners₀)
     × (length tallies ≡ length tallies₀)
-    × (commitAll (memoryOf (caps .ids) (caps .slots) id-marks locations slot-marks owners batch tallies) (rowsFrom batch (n - i) i)
-    ≡ commitAll (memoryOf (caps .ids) (caps .slots) id-marks₀ locations₀ slot-marks₀ owners₀ batch tallies₀) (rowsFrom batch n 0))
+    × (commitAll (memoryOf (caps .ids) (caps .slots) id-marks locations slot-marks owners batch tallies) (keptFrom batch (n - i) i)
+    ≡ commitAll (memoryOf (caps .ids) (caps .slots) id-marks₀ locations₀ slot-marks₀ owners₀ batch tallies₀) (keptFrom batch n 0))
 
 abbrev μ-loop : tie.MeasureT-loop
 μ-loop caps id-marks₀ locations₀ slot-marks₀ owners₀ batch tallies₀ n i₀ id-marks locations slot-marks owners tallies i = n - i

@@ -3,7 +3,7 @@
 use borrow.Author.Needs.{needs}
 use native.Mathlib.Omega.{arith}
 use Rattle.crc_words.specs.Fold.{held}
-use Rattle.crc_words.proofs.Left.{taken}
+use Rattle.crc_words.proofs.Left.{word-read}
 use Rattle.crc_words.proofs.far_at.Statement.{statement}
 use Rattle.crc_words.proofs.far_at.Tie as tie
 
@@ -16,7 +16,7 @@ far-requires c κs = search needs
 returns : tie.Need-returns
 returns c =
     let s = c .before .before .before .args .s .now in
-    taken s (c .before .before .before .args .i) 268 (c .before .load .result) (held (c .before .before .before .args .z)) (held (c .far .result)) (c .far .ensures) (omega arith) (omega arith) (omega arith) (c .before .load .ensures)
+    word-read s (c .before .before .before .args .i) 268 (c .before .load .result) (held (c .before .before .before .args .z)) (held (c .far .result)) (c .far .ensures) (omega arith) (omega arith) (omega arith) (c .before .load .ensures)
 
 pub far-at-spec : {M : Type 1} → statement M
 far-at-spec = tie.close (tie.spec load-requires far-requires returns)

@@ -6,7 +6,7 @@ use Prim.Native.Nat.{_^_, _<_}
 use native.Mathlib.Omega.{arith}
 use lib.Bits.{bitXor, xor-lt}
 use Rattle.crc_words.specs.Fold.{past, pastOf, over, pulled}
-use Rattle.crc_words.proofs.Left.{taken}
+use Rattle.crc_words.proofs.Left.{word-read}
 use Rattle.crc_words.proofs.LastWords.{past-with}
 use Rattle.crc_words.proofs.turn.Statement.{statement}
 use Rattle.crc_words.proofs.turn.Tie as tie
@@ -27,7 +27,7 @@ returns c = λ t.
     let y = bitXor (bitXor w x) (c .pull .result) in
     let l : bitXor w x < 2 ^ 64 = xor-lt 64 w x (omega arith) (omega arith) in
     let m : pulled (h .q) (h .r) (h .s) (h .t) < 2 ^ 64 = rw (sym (c .pull .ensures)) (omega arith) in
-    taken s i 268 w (bitXor (past h) (over x t)) (bitXor (pastOf y (h .p) (h .q) (h .r) (h .s)) t)
+    word-read s i 268 w (bitXor (past h) (over x t)) (bitXor (pastOf y (h .p) (h .q) (h .r) (h .s)) t)
     (rw (c .pull .ensures) (past-with (h .p) (h .q) (h .r) (h .s) (h .t) w x t l m))
     (omega arith)
     (omega arith)

@@ -1,19 +1,19 @@
 use native.Mathlib.Omega.{arith}
 use lib.Seq.{take-length}
-use Rattle.sizes.proofs.Laws.{isSlabSize-least, room-frame}
+use Rattle.sizes.proofs.Laws.{isSlabSize-least, longestObject-frame}
 use Rattle.frame.proofs.Laws.{laid}
 use borrow.Author.Needs.{needs}
 use Rattle.frame.proofs.lay.Statement.{statement}
 use Rattle.frame.proofs.lay.Tie as tie
 
-room-of-requires : tie.Need-room-of-requires
-room-of-requires c κs = search needs
+longest-in-requires : tie.Need-longest-in-requires
+longest-in-requires c κs = search needs
 
 sub-end : tie.Need-sub-end
 sub-end c = omega (arith, isSlabSize-least _ (c .before .before .before .before .pre .0))
 
 copy-requires : tie.Need-copy-requires
-copy-requires c κs = omega (arith, c .before .before .before .before .before .pre .1, room-frame _ (c .before .before .before .before .before .pre .0))
+copy-requires c κs = omega (arith, c .before .before .before .before .before .pre .1, longestObject-frame _ (c .before .before .before .before .before .pre .0))
 
 put-at-requires : tie.Need-put-at-requires
 put-at-requires c κs = search needs
@@ -34,7 +34,7 @@ pub lay-spec : {M : Type 1} → statement M
 lay-spec =
     tie.close
     (tie.spec
-    room-of-requires
+    longest-in-requires
     sub-end
     copy-requires
     put-at-requires

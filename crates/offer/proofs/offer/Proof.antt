@@ -4,7 +4,7 @@ use mathlib.Core.Path.{sym, ap, _∙_}
 use lib.ListN.{length, take}
 use borrow.Author.Needs.{needs}
 use Rattle.model.specs.Memory.{memoryOf}
-use Rattle.tables.specs.Verdicts.{verdictOf}
+use Rattle.tables.specs.Verdicts.{judgedVerdict}
 use Rattle.offer.proofs.LawsOffer.{leaves-as, leaves-verdict, leaves-done, refused-shape, refused-open, refused-many, fits-told, fits-failed, rest-told, kinds-told, kinds-long}
 use Rattle.offer.proofs.offer.Statement.{statement}
 use Rattle.offer.proofs.offer.Tie as tie
@@ -125,7 +125,7 @@ returns-5 c =
     let r = c .before .before .before .before .before .before .before .before .before .before .before .before .before .before .before .before .before .before .before .before .before .kinds .result in
     let ks = take (length (a .ids .now)) r in
     let κ = kinds-told m (a .ids .now) (a .stores .now) (a .lengths .now) (a .placed .now) e few r (c .before .before .before .before .before .before .before .before .before .before .before .before .before .before .before .before .before .before .before .before .before .kinds .ensures) in
-    let g = rest-told m (a .ids .now) (a .stores .now) (a .lengths .now) (a .placed .now) e (sym (c .before .before .before .before .before .before .before .before .before .before .before .before .before .before .before .before .before .before .before .before .before .before .before .before .get .ensures) ∙ z) few ks κ _ (c .before .before .before .before .before .before .before .before .before .before .before .before .before .before .before .before .before .refused .ensures) ∙ ap verdictOf (c .before .before .before .before .before .before .before .before .before .before .before .before .before .before .before .enum-told .given .1) in
+    let g = rest-told m (a .ids .now) (a .stores .now) (a .lengths .now) (a .placed .now) e (sym (c .before .before .before .before .before .before .before .before .before .before .before .before .before .before .before .before .before .before .before .before .before .before .before .before .get .ensures) ∙ z) few ks κ _ (c .before .before .before .before .before .before .before .before .before .before .before .before .before .before .before .before .before .refused .ensures) ∙ ap judgedVerdict (c .before .before .before .before .before .before .before .before .before .before .before .before .before .before .before .enum-told .given .1) in
     leaves-done m (a .ids .now) (a .stores .now) (a .lengths .now) (a .placed .now) e (sym (c .before .before .before .before .before .before .before .before .before .before .before .before .before .before .before .before .before .before .before .before .before .before .before .before .get .ensures) ∙ z) few ks κ _ _ _ _ g (c .before .before .before .before .before .before .before .before .before .before .before .place .ensures .0) (c .before .before .before .before .before .before .before .before .before .before .before .place .ensures .1) (c .before .before .keep .ensures)
 
 pub offer-spec : {M : Type 1} → statement M

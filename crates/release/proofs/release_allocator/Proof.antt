@@ -4,7 +4,7 @@ use mathlib.Core.Path.{_≡_, sym, ap, _∙_}
 use mathlib.Core.List.{map}
 use Rattle.marks.specs.Marks.{letGo}
 use Rattle.id_allocator.specs.Counted.{hinted}
-use Rattle.model.specs.Memory.{word, hintWords, waitingWords}
+use Rattle.model.specs.Memory.{getWord, hintWords, waitingWords}
 use Rattle.release.proofs.Laws.{quiet-marks, quiet-words, waiting-marks, released-words}
 use Rattle.release.proofs.release_allocator.Statement.{statement}
 use Rattle.release.proofs.release_allocator.Tie as tie
@@ -46,8 +46,8 @@ returns-2 : tie.Need-returns-2
 returns-2 c =
     let a = c .before .before .before .before .before .before .before .before .before .before .before .before .before .before .before .before .before .before .before .before .before .before .before .args in
     let g = a .tallies .now in
-    let some : word g waitingWords (a .allocator) ≡ 0 → ⊥ = λ z. c .before .before .before .before .before .before .before .before .before .before .before .before .before .before .before .before .before .before .if1 .left (c .before .before .before .before .before .before .before .before .before .before .before .before .before .before .before .before .before .before .before .get .ensures ∙ z) in (
-      c .before .before .before .before .before .before .before .before .before .before .before .before .before .before .release .ensures .1 ∙ ap (λ h. map letGo (hinted h (a .marks .now))) (c .before .before .before .before .before .before .before .before .before .before .before .before .before .before .before .before .get2 .ensures) ∙ waiting-marks (word g hintWords (a .allocator)) (word g waitingWords (a .allocator)) (a .marks .now) some,
+    let some : getWord g waitingWords (a .allocator) ≡ 0 → ⊥ = λ z. c .before .before .before .before .before .before .before .before .before .before .before .before .before .before .before .before .before .before .if1 .left (c .before .before .before .before .before .before .before .before .before .before .before .before .before .before .before .before .before .before .before .get .ensures ∙ z) in (
+      c .before .before .before .before .before .before .before .before .before .before .before .before .before .before .release .ensures .1 ∙ ap (λ h. map letGo (hinted h (a .marks .now))) (c .before .before .before .before .before .before .before .before .before .before .before .before .before .before .before .before .get2 .ensures) ∙ waiting-marks (getWord g hintWords (a .allocator)) (getWord g waitingWords (a .allocator)) (a .marks .now) some,
       released-words g _ _ _ (a .allocator) _ _ _ (a .marks .now) some (c .before .before .before .before .before .before .before .before .before .before .before .before .before .before .before .before .get2 .ensures) (c .before .before .before .before .before .before .before .before .before .before .before .before .before .before .release .ensures .0) (c .before .before .before .before .before .before .before .before .before .before .add .ensures) (c .before .before .before .before .before .before .put .ensures) (c .before .before .put2 .ensures),
     )
 

@@ -5,12 +5,12 @@ use Rattle.commit.specs.Commit.{badUpdate}
 use Rattle.commit.proofs.check.bad_update.Statement.{statement}
 use Rattle.commit.proofs.check.bad_update.Tie as tie
 
-out-of-range-requires : tie.Need-out-of-range-requires
-out-of-range-requires c κs = search
+bad-kept-requires : tie.Need-bad-kept-requires
+bad-kept-requires c κs = search
 
 returns : tie.Need-returns
 unfolding badUpdate
-returns c = simp (sym (c .before .out-of-range .ensures) ∙ c .if1 .taken)
+returns c = simp (sym (c .before .bad-kept .ensures) ∙ c .if1 .taken)
 
 get-requires : tie.Need-get-requires
 get-requires c κs = search
@@ -22,8 +22,8 @@ returns-2 : tie.Need-returns-2
 unfolding badUpdate
 returns-2 c =
     let a = c .before .before .before .before .before .before .before .before .args in
-    simp (sym (c .before .before .before .out-of-range .ensures) ∙ c .before .before .if1 .left, c .bad-location .ensures, c .before .get .ensures, zero-add (a .id))
+    simp (sym (c .before .before .before .bad-kept .ensures) ∙ c .before .before .if1 .left, c .bad-location .ensures, c .before .get .ensures, zero-add (a .id))
 
 pub bad-update-spec : {M : Type 1} → statement M
 bad-update-spec =
-    tie.close (tie.spec out-of-range-requires returns get-requires bad-location-requires returns-2)
+    tie.close (tie.spec bad-kept-requires returns get-requires bad-location-requires returns-2)

@@ -5,7 +5,7 @@ use native.Mathlib.Omega.{arith}
 use mathlib.Core.Bool.{true, false}
 use Prim.Native.Nat.{_-_, _≤_}
 use native.Mathlib.Nat.{sub-zero}
-use Rattle.batch_kept.specs.Kept.{firstBad, rowsFrom}
+use Rattle.batch_kept.specs.Kept.{firstBad, keptFrom}
 use Rattle.batch_kept.proofs.Laws.{row-read, firstBad-here, firstBad-next, firstBad-none}
 use Rattle.commit.specs.Commit.{rowBad}
 use Rattle.commit.proofs.check.check_rows.Statement.{statement}
@@ -14,8 +14,8 @@ use Rattle.commit.proofs.check.check_rows.Tie as tie
 abbrev Inv-loop : tie.InvT-loop
 Inv-loop caps locations slot-marks owners batch tallies n i₀ i =
     (i ≤ n)
-    × (firstBad (rowBad (caps .ids) (caps .slots) locations slot-marks owners tallies) 0 (rowsFrom batch n 0)
-    ≡ firstBad (rowBad (caps .ids) (caps .slots) locations slot-marks owners tallies) i (rowsFrom batch (n - i) i))
+    × (firstBad (rowBad (caps .ids) (caps .slots) locations slot-marks owners tallies) 0 (keptFrom batch n 0)
+    ≡ firstBad (rowBad (caps .ids) (caps .slots) locations slot-marks owners tallies) i (keptFrom batch (n - i) i))
 
 abbrev μ-loop : tie.MeasureT-loop
 μ-loop caps locations slot-marks owners batch tallies n i₀ i = n - i

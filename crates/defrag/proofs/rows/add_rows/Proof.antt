@@ -9,8 +9,8 @@ use native.Mathlib.Omega.{arith}
 use denote.Ref.{now}
 use borrow.Author.Needs.{needs}
 use Rattle.model.specs.Tables.{idsOf, locationsOf}
-use Rattle.defrag.specs.Listed.{rowOf, rowsOf}
-use Rattle.defrag.proofs.Written.{rowsOf-turn, rowsOf-end, rowOf-le, next-count, next-ids, next-locations}
+use Rattle.defrag.specs.Listed.{rowOf, listedOf}
+use Rattle.defrag.proofs.Written.{listedOf-turn, listedOf-end, rowOf-le, next-count, next-ids, next-locations}
 use Rattle.defrag.proofs.rows.add_rows.Statement.{statement}
 use Rattle.defrag.proofs.rows.add_rows.Tie as tie
 
@@ -18,9 +18,9 @@ abbrev Inv-loop : tie.InvT-loop
 Inv-loop locations owners first moved-ids₀ moved-locations₀ from n₀ location₀ i₀ moved-ids moved-locations n location i =
     (i ≤ length owners) × (location ≡ first + i) × (n ≤ from + i)
     × (length moved-ids ≡ length moved-ids₀) × (length moved-locations ≡ length moved-locations₀)
-    × (n + length (rowsOf locations location (drop i owners)) ≡ from + length (rowsOf locations first owners))
-    × (sets moved-ids n (idsOf (rowsOf locations location (drop i owners))) ≡ sets moved-ids₀ from (idsOf (rowsOf locations first owners)))
-    × (sets moved-locations n (locationsOf (rowsOf locations location (drop i owners))) ≡ sets moved-locations₀ from (locationsOf (rowsOf locations first owners)))
+    × (n + length (listedOf locations location (drop i owners)) ≡ from + length (listedOf locations first owners))
+    × (sets moved-ids n (idsOf (listedOf locations location (drop i owners))) ≡ sets moved-ids₀ from (idsOf (listedOf locations first owners)))
+    × (sets moved-locations n (locationsOf (listedOf locations location (drop i owners))) ≡ sets moved-locations₀ from (locationsOf (listedOf locations first owners)))
 
 abbrev μ-loop : tie.MeasureT-loop
 μ-loop locations owners first moved-ids₀ moved-locations₀ from n₀ location₀ i₀ moved-ids moved-locations n location i = length owners - i
@@ -56,8 +56,8 @@ loop-again c =
     let l = b .loop .location in
     let n = b .loop .n in
     let row = rowOf ls l (getD os i 0) in
-    let rest = rowsOf ls (l + 1) (drop (i + 1) os) in
-    let split = rowsOf-turn ls l os i (omega arith) in
+    let rest = listedOf ls (l + 1) (drop (i + 1) os) in
+    let split = listedOf-turn ls l os i (omega arith) in
     let e = c .before .before .before .before .add-row .ensures in (
       search needs,
       search needs,
@@ -79,7 +79,7 @@ returns : tie.Need-returns Inv-loop μ-loop
 returns c =
     let b = c .before in
     let a = c .before .before .before .before .before .before .args in
-    let e = rowsOf-end (now (a .locations)) (b .loop .location) (now (a .owners)) (b .loop .i) (omega arith) in
+    let e = listedOf-end (now (a .locations)) (b .loop .location) (now (a .owners)) (b .loop .i) (omega arith) in
     (omega (arith, rw e at (b .loop .inv .5)), rw e at (b .loop .inv .6), rw e at (b .loop .inv .7))
 
 pub add-rows-spec : {M : Type 1} → statement M

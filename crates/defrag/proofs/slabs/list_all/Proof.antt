@@ -7,9 +7,9 @@ use native.Mathlib.Omega.{arith}
 use denote.Ref.{now}
 use borrow.Author.Needs.{needs}
 use Rattle.model.specs.Tables.{idsOf, locationsOf}
-use Rattle.defrag.specs.Listed.{slabRows, rowsFrom}
+use Rattle.defrag.specs.Listed.{slabRows, listedFrom}
 use Rattle.defrag.proofs.Written.{next-count, next-ids, next-locations}
-use Rattle.defrag.proofs.Spans.{slabRows-le, rowsFrom-turn, rowsFrom-end}
+use Rattle.defrag.proofs.Spans.{slabRows-le, listedFrom-turn, listedFrom-end}
 use Rattle.defrag.proofs.slabs.list_all.Statement.{statement}
 use Rattle.defrag.proofs.slabs.list_all.Tie as tie
 
@@ -17,9 +17,9 @@ abbrev Inv-loop : tie.InvT-loop
 Inv-loop slots locations slot-marks owners tallies r moved-ids₀ moved-locations₀ n₀ slab₀ moved-ids moved-locations n slab =
     (slab ≤ 78) × (n ≤ slab * 65536)
     × (length moved-ids ≡ length moved-ids₀) × (length moved-locations ≡ length moved-locations₀)
-    × (n + length (rowsFrom slots locations slot-marks owners tallies r (78 - slab) slab) ≡ length (rowsFrom slots locations slot-marks owners tallies r 78 0))
-    × (sets moved-ids n (idsOf (rowsFrom slots locations slot-marks owners tallies r (78 - slab) slab)) ≡ sets moved-ids₀ 0 (idsOf (rowsFrom slots locations slot-marks owners tallies r 78 0)))
-    × (sets moved-locations n (locationsOf (rowsFrom slots locations slot-marks owners tallies r (78 - slab) slab)) ≡ sets moved-locations₀ 0 (locationsOf (rowsFrom slots locations slot-marks owners tallies r 78 0)))
+    × (n + length (listedFrom slots locations slot-marks owners tallies r (78 - slab) slab) ≡ length (listedFrom slots locations slot-marks owners tallies r 78 0))
+    × (sets moved-ids n (idsOf (listedFrom slots locations slot-marks owners tallies r (78 - slab) slab)) ≡ sets moved-ids₀ 0 (idsOf (listedFrom slots locations slot-marks owners tallies r 78 0)))
+    × (sets moved-locations n (locationsOf (listedFrom slots locations slot-marks owners tallies r (78 - slab) slab)) ≡ sets moved-locations₀ 0 (locationsOf (listedFrom slots locations slot-marks owners tallies r 78 0)))
 
 abbrev μ-loop : tie.MeasureT-loop
 μ-loop slots locations slot-marks owners tallies r moved-ids₀ moved-locations₀ n₀ slab₀ moved-ids moved-locations n slab = 78 - slab
@@ -42,8 +42,8 @@ loop-again c =
     let p = c .before .before .before .before .before .before .before .before .before .before .before .before .before .before .before .pre in
     let b = c .before .before .before .before .before .before .before .before .loop in
     let row = slabRows (a .slots) (now (a .locations)) (now (a .slot-marks)) (now (a .owners)) (now (a .tallies)) (a .r) (b .slab) in
-    let rest = rowsFrom (a .slots) (now (a .locations)) (now (a .slot-marks)) (now (a .owners)) (now (a .tallies)) (a .r) (78 - (b .slab + 1)) (b .slab + 1) in
-    let split = rowsFrom-turn (a .slots) (now (a .locations)) (now (a .slot-marks)) (now (a .owners)) (now (a .tallies)) (a .r) (b .slab) (omega arith) in
+    let rest = listedFrom (a .slots) (now (a .locations)) (now (a .slot-marks)) (now (a .owners)) (now (a .tallies)) (a .r) (78 - (b .slab + 1)) (b .slab + 1) in
+    let split = listedFrom-turn (a .slots) (now (a .locations)) (now (a .slot-marks)) (now (a .owners)) (now (a .tallies)) (a .r) (b .slab) (omega arith) in
     let few = slabRows-le (a .slots) (now (a .locations)) (now (a .slot-marks)) (now (a .owners)) (now (a .tallies)) (a .r) (b .slab) (p .0) (p .1) (omega arith) (p .2) in
     let e = c .before .before .before .before .add-slab .ensures in (
       search needs,
@@ -65,7 +65,7 @@ returns : tie.Need-returns Inv-loop μ-loop
 returns c =
     let a = c .before .before .before .before .before .before .before .before .args in
     let b = c .before .loop in
-    let e = rowsFrom-end (a .slots) (now (a .locations)) (now (a .slot-marks)) (now (a .owners)) (now (a .tallies)) (a .r) (b .slab) (omega arith) in
+    let e = listedFrom-end (a .slots) (now (a .locations)) (now (a .slot-marks)) (now (a .owners)) (now (a .tallies)) (a .r) (b .slab) (omega arith) in
     (omega (arith, rw e at (b .inv .4)), rw e at (b .inv .5), rw e at (b .inv .6))
 
 pub list-all-spec : {M : Type 1} → statement M

@@ -1,7 +1,7 @@
 use Rattle.frame.specs.declared.Verdict.{Verdict}
 use mathlib.Core.Path.{sym, ap, _∙_}
 use lib.Seq.{length-take-le}
-use Rattle.frame.specs.Frame.{part}
+use Rattle.frame.specs.Frame.{objectPart}
 use Rattle.frame.proofs.Laws.{verdict-within}
 use borrow.Author.Needs.{needs}
 use Rattle.frame.proofs.Slab.read.Statement.{statement}
@@ -20,15 +20,15 @@ slice-aggregate-result : tie.Need-slice-aggregate-result
 slice-aggregate-result c = search needs
 
 returns : tie.Need-returns
-unfolding part
-returns c = ap (λ (v : Verdict). part v (c .before .before .before .before .before .args .slot .now)) (sym (c .before .enum-told .given .1) ∙ c .before .before .before .verdict .ensures)
+unfolding objectPart
+returns c = ap (λ (v : Verdict). objectPart v (c .before .before .before .before .before .args .slot .now)) (sym (c .before .enum-told .given .1) ∙ c .before .before .before .verdict .ensures)
 
 slice-aggregate-result-2 : tie.Need-slice-aggregate-result-2
 slice-aggregate-result-2 c = sym (length-take-le _ _ (verdict-within _ _ (sym (c .before .before .before .before .verdict .ensures) ∙ c .before .before .n .given .1)))
 
 returns-2 : tie.Need-returns-2
-unfolding part
-returns-2 c = ap (λ (v : Verdict). part v (c .before .before .before .before .before .before .args .slot .now)) (sym (c .before .before .n .given .1) ∙ c .before .before .before .before .verdict .ensures)
+unfolding objectPart
+returns-2 c = ap (λ (v : Verdict). objectPart v (c .before .before .before .before .before .before .args .slot .now)) (sym (c .before .before .n .given .1) ∙ c .before .before .before .before .verdict .ensures)
 
 pub read-spec : {M : Type 1} → statement M
 read-spec =

@@ -1,7 +1,7 @@
 use mathlib.Core.Bool.{true, false}
 use lib.Dec.{ltb}
 use lib.ListN.{length}
-use Rattle.sizes.specs.Sizes.{room}
+use Rattle.sizes.specs.Sizes.{longestObject}
 use borrow.Author.Tests.{lt-ltb, le-ltb, not-true, not-false}
 use mathlib.Core.Path.{_≡_, sym, _∙_}
 use native.Mathlib.Omega.{arith}
@@ -33,8 +33,8 @@ unfolding verdictOf
 returns-2 c =
     simp (sym (c .before .before .before .before .is-slab-size .ensures) ∙ not-false _ (c .before .before .before .if1 .left), sym (c .before .before .agrees .ensures) ∙ not-true _ (c .before .if2 .taken), c .of2 .ensures)
 
-room-of-requires : tie.Need-room-of-requires
-room-of-requires c κs = search needs
+longest-in-requires : tie.Need-longest-in-requires
+longest-in-requires c κs = search needs
 
 sub-end : tie.Need-sub-end
 sub-end c = omega (arith, isSlabSize-least _ (sym (c .before .before .before .before .is-slab-size .ensures) ∙ not-false _ (c .before .before .before .if1 .left)))
@@ -50,8 +50,8 @@ unfolding verdictOf
 returns-3 c =
     let slot = c .before .before .before .before .before .before .before .before .before .args .slot .now in
     let slab = sym (c .before .before .before .before .before .before .before .is-slab-size .ensures) ∙ not-false _ (c .before .before .before .before .before .before .if1 .left) in
-    let stored = stored-read slot _ (c .before .before .get-at .result) slab (c .before .before .before .room-of .ensures) (c .before .before .get-at .ensures) in
-    let long : ltb (room (length slot)) (storedLength slot) ≡ true = rw (← stored, ← c .before .before .before .room-of .ensures) (lt-ltb _ _ (c .before .if3 .taken)) in
+    let stored = stored-read slot _ (c .before .before .get-at .result) slab (c .before .before .before .longest-in .ensures) (c .before .before .get-at .ensures) in
+    let long : ltb (longestObject (length slot)) (storedLength slot) ≡ true = rw (← stored, ← c .before .before .before .longest-in .ensures) (lt-ltb _ _ (c .before .if3 .taken)) in
     simp (slab, sym (c .before .before .before .before .before .agrees .ensures) ∙ not-false _ (c .before .before .before .before .if2 .left), long, c .of3 .ensures)
 
 returns-4 : tie.Need-returns-4
@@ -59,8 +59,8 @@ unfolding verdictOf
 returns-4 c =
     let slot = c .before .before .before .before .before .before .before .before .args .slot .now in
     let slab = sym (c .before .before .before .before .before .before .is-slab-size .ensures) ∙ not-false _ (c .before .before .before .before .before .if1 .left) in
-    let stored = stored-read slot _ (c .before .get-at .result) slab (c .before .before .room-of .ensures) (c .before .get-at .ensures) in
-    let short : ltb (room (length slot)) (storedLength slot) ≡ false = rw (← stored, ← c .before .before .room-of .ensures) (le-ltb _ _ (c .if3 .left)) in
+    let stored = stored-read slot _ (c .before .get-at .result) slab (c .before .before .longest-in .ensures) (c .before .get-at .ensures) in
+    let short : ltb (longestObject (length slot)) (storedLength slot) ≡ false = rw (← stored, ← c .before .before .longest-in .ensures) (le-ltb _ _ (c .if3 .left)) in
     simp (slab, sym (c .before .before .before .before .agrees .ensures) ∙ not-false _ (c .before .before .before .if2 .left), short, stored)
 
 pub verdict-spec : {M : Type 1} → statement M
@@ -73,7 +73,7 @@ verdict-spec =
     agrees-requires
     of-requires-2
     returns-2
-    room-of-requires
+    longest-in-requires
     sub-end
     get-at-requires
     of-requires-3

@@ -20,8 +20,8 @@ held-requires c κs = search
 put-requires-2 : tie.Need-put-requires-2
 put-requires-2 c κs = search
 
-taken-requires : tie.Need-taken-requires
-taken-requires c κs = search
+numbers-taken-requires : tie.Need-numbers-taken-requires
+numbers-taken-requires c κs = search
 
 add-requires : tie.Need-add-requires
 add-requires c κs = search
@@ -46,7 +46,7 @@ returns c =
     let a = c .before .before .before .before .before .before .before .before .before .before .before .before .before .before .before .before .before .before .before .before .before .before .before .before .before .before .before .args in
     let first = getD (a .id-marks .now) 0 0 in (
       held-marks (a .id-marks .now) _ _ (a .id) first _ (c .before .before .before .before .before .before .before .before .before .before .before .before .before .before .before .before .before .before .before .before .put .ensures) (c .before .before .before .before .before .before .before .before .before .before .before .before .before .before .before .before .held .ensures) (c .before .before .before .before .before .before .before .before .before .before .before .before .before .before .before .put2 .ensures),
-      held-words (a .tallies .now) _ _ _ (a .id) first _ _ (c .before .before .before .before .before .before .before .before .before .before .before .before .before .before .before .before .before .before .before .before .before .before .get .ensures) (c .before .before .before .before .before .before .before .before .before .before .before .taken .ensures) (c .before .before .before .before .before .before .before .before .before .before .add .ensures) (c .before .before .before .before .before .before .put3 .ensures) (c .before .before .put4 .ensures),
+      held-words (a .tallies .now) _ _ _ (a .id) first _ _ (c .before .before .before .before .before .before .before .before .before .before .before .before .before .before .before .before .before .before .before .before .before .before .get .ensures) (c .before .before .before .before .before .before .before .before .before .before .before .numbers-taken .ensures) (c .before .before .before .before .before .before .before .before .before .before .add .ensures) (c .before .before .before .before .before .before .put3 .ensures) (c .before .before .put4 .ensures),
     )
 
 pub hold-id-spec : {M : Type 1} → statement M
@@ -58,7 +58,7 @@ hold-id-spec =
     put-requires
     held-requires
     put-requires-2
-    taken-requires
+    numbers-taken-requires
     add-requires
     put-requires-3
     add-put
