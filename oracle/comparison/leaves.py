@@ -67,7 +67,7 @@ def compare_frames(beside, chance):
             beside.call(f"frame {size} ramp {length} {seed} {step}", f"ok whole {tail.hex()}")
             beside.call(f"unframe {size} ramp {length} {seed} {step} {tail.hex()}", spoken.ok(length))
         compare_damaged(beside, chance, size)
-        # An object beyond the room: the Rust asserts, except where its own overhead is the smaller one.
+        # An object beyond the longest: the Rust asserts, except where its own overhead is the smaller one.
         room = model.longest_object(size)
         for beyond in range(room + 1, room + 12):
             if beyond not in OTHER_CLASS_IN_RUST:

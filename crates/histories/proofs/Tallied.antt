@@ -30,7 +30,7 @@ use Rattle.model.proofs.Verdicts.{test-ok, then-ok}
 use Rattle.histories.specs.Invariant.{Inv, KeptRows}
 use Rattle.histories.specs.Statements.{inSlab, heldOrPending, Tally, rowsBy, rowsSince, Tallied, BelowTip}
 use Rattle.histories.proofs.Kept.{Sizes, sizes-of, GoodS, row-good, rows-frame}
-use Rattle.histories.proofs.KeptBatches.{place-free, kept-taken}
+use Rattle.histories.proofs.KeptBatches.{place-free, kept-reserved}
 use Rattle.histories.proofs.KeptRebuild.{Apart, rows-apart}
 use Rattle.histories.proofs.Reached.{keep-next, fresh-inv}
 
@@ -350,7 +350,7 @@ tally-abandon s rs v a = record {
 }
   where
     ranged : Ranged (s .slots) (locationsOf (kept s))
-    ranged l e n = kept-taken (s .slots) (s .idMarks) (s .locations) (s .slotMarks) (kept s) (v .good .keeps) l e n .range
+    ranged l e n = kept-reserved (s .slots) (s .idMarks) (s .locations) (s .slotMarks) (kept s) (v .good .keeps) l e n .range
 
 -- ---- rebuild
 

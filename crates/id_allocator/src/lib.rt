@@ -7,7 +7,8 @@
 //     hint = id_allocator::give_back(&mut marks, hint, number);
 //
 // The marks are lent, a byte for each number. Below the hint a 0 counts as held, so that a search starts there; specs/Counted.antt
-// says how every list of marks counts under every hint. What is said of marks without a hint is in `marks`, `search` and `pending`.
+// says how every list of marks counts under every hint. What is said of marks without a hint is in `marks`, `marks_search` and
+// `marks_pending`.
 ghost use mathlib.Core.Path.{_≡_};
 ghost use mathlib.Core.List.{map};
 ghost use Prim.Native.Nat.{min, max};

@@ -2,8 +2,8 @@
 //
 //     let free = marks::count(&table, marks::FREE);
 //
-// The inner loops here, in `search` and in `pending` run over a whole slice, each turn like the others and their results in a byte, so that
-// the compiler makes vector instructions of them.
+// The inner loops here, in `marks_search` and in `marks_pending` run over a whole slice, each turn like the others and their results in a
+// byte, so that the compiler makes vector instructions of them.
 ghost use mathlib.Core.Path.{_≡_};
 ghost use mathlib.Core.List.{map};
 ghost use Prim.Native.Nat.{_≤_};

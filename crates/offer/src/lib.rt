@@ -8,7 +8,7 @@
 //         Offered::Refused(refusal) => ..,  // nothing is written
 //     }
 //
-// What could refuse only reads (`updates`, `room`); what is written comes after it and cannot fail (`places`).
+// What could refuse only reads (`offer_updates`, `offer_room`); what is written comes after it and cannot fail (`offer_places`).
 ghost use mathlib.Core.Path.{_≡_};
 ghost use mathlib.Core.List.{[]};
 ghost use Rattle.model.specs.Verdict.{_⨾_};

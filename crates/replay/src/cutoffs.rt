@@ -1,10 +1,10 @@
 // cutoff LIVE TIP BITS: from SLOT | nothing
+use fragmentation::Cutoff;
 use replay_words::ratios;
 use replay_words::told;
 use replay_words::words;
 use replay_words::words::Numeral;
 use replay_words::words::Pair;
-use fragmentation::Cutoff;
 
 fn is_cutoff(live: usize, tip: usize, r: f32, answer: &[u8]) -> bool {
     match fragmentation::fragmentation_cutoff(live, tip, r) {

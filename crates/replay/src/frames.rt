@@ -3,13 +3,13 @@
 use crate::blob;
 use crate::digits;
 use crate::lent;
+use frame::Slab;
+use frame::Verdict;
+use frame::Written;
 use replay_words::front;
 use replay_words::told;
 use replay_words::words;
 use replay_words::words::Numeral;
-use frame::Slab;
-use frame::Verdict;
-use frame::Written;
 
 // The bytes that the digits say go over the slot's last ones.
 fn put_tail(tail: &[u8], slot: &mut [u8]) -> bool {

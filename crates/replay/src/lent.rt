@@ -1,6 +1,6 @@
 // What a lent buffer holds before a call, so that what the call leaves of it can be told.
-use replay_words::told;
 use refusal::Refusal;
+use replay_words::told;
 
 fn before(i: usize) -> u8 {
     (i % 251) as u8

@@ -1,9 +1,9 @@
 // counted ALLOCATOR GRANTED FREED: one pair of what the counters before it answered. They are asked again, since nothing has changed them
 // in between.
+use object_ids::Counted;
 use replay_words::words;
 use replay_words::words::Numeral;
 use replay_words::words::Pair;
-use object_ids::Counted;
 use tables::ALLOCATORS;
 use tables::Capacities;
 

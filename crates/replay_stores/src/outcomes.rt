@@ -1,7 +1,5 @@
 // Whether a call's outcome is what the line says: ok, with numbers or without, keep, cut LENGTH GIVEN_BACK, or REFUSED.
 use abandon::Abandoned;
-use replay_words::told;
-use replay_words::words;
 use commit::Committed;
 use defrag::Defrag;
 use lookup::Looked;
@@ -11,6 +9,8 @@ use object_ids::NewId;
 use offer::Offered;
 use rebuild::Rebuilt;
 use release::Released;
+use replay_words::told;
+use replay_words::words;
 use truncation::Reported;
 use truncation::Truncated;
 

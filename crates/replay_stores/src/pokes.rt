@@ -4,11 +4,11 @@
 // A mark is said as document 01 reads it, where the tables read it by the hint and the waiting word of its allocator. So a poke
 // sets these two, to 0 and to 1, by which every mark counts as it stands; pokes follow a fresh, which leaves each hint at 0. A
 // peek reads the mark by them, as 0, 1 or 2, and a used word as 0 or 1.
-use replay_words::words;
-use replay_words::words::Pair;
 use marks::FREE;
 use marks::HELD;
 use marks::PENDING;
+use replay_words::words;
+use replay_words::words::Pair;
 use tables::FREED;
 use tables::GRANTED;
 use tables::HIGH;

@@ -1,9 +1,9 @@
 // Frames: document 01's three bytes in a slot of 64, the edges of each width of the length field, and damaged slots.
 use crate::say;
-use replay_words::front;
 use frame::Slab;
 use frame::Verdict;
 use frame::Written;
+use replay_words::front;
 
 fn say_written(w: Written) {
     match w {
