@@ -1,6 +1,6 @@
 // Settings cookies.
 use crate::say;
-use replay_words::front;
+use crate::space::first;
 use settings::PersistentSettings;
 use settings::Stored;
 use settings::Verified;
@@ -45,7 +45,7 @@ fn lent(space: &mut [u8]) {
 
 // The same where a cookie stands there already, with bytes after it.
 fn longer(space: &mut [u8]) {
-    PersistentSettings::serialize(7, front::first_mut(space, 64));
+    PersistentSettings::serialize(7, first(space, 64));
     lent(space);
 }
 

@@ -1,9 +1,10 @@
 // Frames: document 01's three bytes in a slot of 64, the edges of each width of the length field, and damaged slots.
 use crate::say;
+use crate::space::first;
+use crate::space::space;
 use frame::Slab;
 use frame::Verdict;
 use frame::Written;
-use replay_words::front;
 
 fn say_written(w: Written) {
     match w {
@@ -28,19 +29,25 @@ fn fill(s: &mut [u8]) {
     }
 }
 
-// The first n of the pattern are written into a slot of so many bytes of old ones, and read back.
-fn edge(space: &mut [u8], size: usize, pattern: &[u8], n: usize) {
-    let slot = front::first_mut(space, size);
+fn say_edge(slot: &mut [u8], object: &[u8]) {
     fill(slot);
-    let object = front::first(pattern, n);
     say::text(b"frame");
-    say::number(size as u64);
-    say::number(n as u64);
+    say::number(slot.len() as u64);
+    say::number(object.len() as u64);
     say_written(Slab::write(slot, object));
     say::hex(crc32::hash(slot) as u64, 8);
     say_verdict(Slab::verdict(slot));
     say::hex(crc32::hash(Slab::read(slot)) as u64, 8);
     say::end();
+}
+
+// An object of n bytes is written into a slot of so many old ones, and read back.
+fn edge(size: usize, n: usize) {
+    let mut slots = space();
+    let mut objects = space();
+    let object = first(&mut objects, n);
+    fill(object);
+    say_edge(first(&mut slots, size), object);
 }
 
 fn flip(slot: &mut [u8], at: usize) {
@@ -50,20 +57,20 @@ fn flip(slot: &mut [u8], at: usize) {
 }
 
 // One byte of a written slot is changed.
-fn damaged(space: &mut [u8], size: usize, at: usize) {
-    let slot = front::first_mut(space, size);
-    Slab::write(slot, b"face");
-    flip(slot, at);
-    say::text(b"damaged");
-    say::number(size as u64);
+fn damaged(at: usize) {
+    let mut slot = [0u8; 64];
+    Slab::write(&mut slot, b"face");
+    flip(&mut slot, at);
+    say::text(b"damaged 64");
     say::number(at as u64);
-    say_verdict(Slab::verdict(slot));
+    say_verdict(Slab::verdict(&slot));
     say::end();
 }
 
 // A slot whose length field says n, signed all the same.
-fn stored(space: &mut [u8], size: usize, start: usize, end: usize, n: u64) {
-    let slot = front::first_mut(space, size);
+fn stored(size: usize, start: usize, end: usize, n: u64) {
+    let mut slots = space();
+    let slot = first(&mut slots, size);
     fill(slot);
     little_endian::put_at(slot, start, end, n);
     seal::write(slot);
@@ -84,39 +91,34 @@ fn three_bytes() {
 
 pub fn run() {
     three_bytes();
-    let mut large = [0u8; 98304];
-    let space: &mut [u8] = &mut large;
-    let mut source = [0u8; 98304];
-    let pattern: &mut [u8] = &mut source;
-    fill(pattern);
-    edge(space, 64, pattern, 0);
-    edge(space, 64, pattern, 59);
-    edge(space, 64, pattern, 60);
-    edge(space, 224, pattern, 219);
-    edge(space, 224, pattern, 220);
-    edge(space, 256, pattern, 250);
-    edge(space, 256, pattern, 251);
-    edge(space, 57344, pattern, 57338);
-    edge(space, 57344, pattern, 57339);
-    edge(space, 65536, pattern, 65528);
-    edge(space, 65536, pattern, 65529);
-    edge(space, 98304, pattern, 98296);
-    edge(space, 98304, pattern, 98297);
-    edge(space, 0, pattern, 0);
-    edge(space, 63, pattern, 0);
-    edge(space, 65, pattern, 0);
-    edge(space, 65535, pattern, 0);
-    edge(space, 81920, pattern, 0);
-    damaged(space, 64, 0);
-    damaged(space, 64, 30);
-    damaged(space, 64, 59);
-    damaged(space, 64, 63);
-    stored(space, 64, 59, 60, 59);
-    stored(space, 64, 59, 60, 60);
-    stored(space, 64, 59, 60, 255);
-    stored(space, 256, 250, 252, 250);
-    stored(space, 256, 250, 252, 251);
-    stored(space, 65536, 65528, 65532, 65528);
-    stored(space, 65536, 65528, 65532, 65529);
-    stored(space, 65536, 65528, 65532, 4294967295);
+    edge(64, 0);
+    edge(64, 59);
+    edge(64, 60);
+    edge(224, 219);
+    edge(224, 220);
+    edge(256, 250);
+    edge(256, 251);
+    edge(57344, 57338);
+    edge(57344, 57339);
+    edge(65536, 65528);
+    edge(65536, 65529);
+    edge(98304, 98296);
+    edge(98304, 98297);
+    edge(0, 0);
+    edge(63, 0);
+    edge(65, 0);
+    edge(65535, 0);
+    edge(81920, 0);
+    damaged(0);
+    damaged(30);
+    damaged(59);
+    damaged(63);
+    stored(64, 59, 60, 59);
+    stored(64, 59, 60, 60);
+    stored(64, 59, 60, 255);
+    stored(256, 250, 252, 250);
+    stored(256, 250, 252, 251);
+    stored(65536, 65528, 65532, 65528);
+    stored(65536, 65528, 65532, 65529);
+    stored(65536, 65528, 65532, 4294967295);
 }

@@ -5,6 +5,7 @@ mod checks;
 mod cookies;
 mod frames;
 mod say;
+mod space;
 
 fn main() {
     checks::run();

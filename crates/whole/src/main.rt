@@ -102,64 +102,6 @@ fn batch_of(
     );
 }
 
-fn store_all(
-    id_marks: &mut [u8],
-    locations: &mut [u64],
-    slot_marks: &mut [u8],
-    owners: &mut [u64],
-    batch: &mut [u64],
-    tallies: &mut [u64],
-) {
-    eight_ids(id_marks, batch, tallies);
-    batch_of(
-        id_marks,
-        locations,
-        slot_marks,
-        owners,
-        batch,
-        tallies,
-        &[1, 2, 3, 4, 5, 6, 7, 8],
-        &[true, true, true, true, true, true, true, true],
-        &[3, 3, 3, 3, 3, 3, 3, 3],
-        &mut [0; 8],
-    );
-}
-
-fn free_some(
-    id_marks: &mut [u8],
-    locations: &mut [u64],
-    slot_marks: &mut [u8],
-    owners: &mut [u64],
-    batch: &mut [u64],
-    tallies: &mut [u64],
-) {
-    batch_of(
-        id_marks,
-        locations,
-        slot_marks,
-        owners,
-        batch,
-        tallies,
-        &[1, 2, 3, 5, 7],
-        &[false, false, false, false, false],
-        &[0, 0, 0, 0, 0],
-        &mut [0; 5],
-    );
-    release::release(caps(), id_marks, slot_marks, batch, tallies);
-}
-
-fn store_and_free(
-    id_marks: &mut [u8],
-    locations: &mut [u64],
-    slot_marks: &mut [u8],
-    owners: &mut [u64],
-    batch: &mut [u64],
-    tallies: &mut [u64],
-) {
-    store_all(id_marks, locations, slot_marks, owners, batch, tallies);
-    free_some(id_marks, locations, slot_marks, owners, batch, tallies);
-}
-
 fn list(
     locations: &[u64],
     slot_marks: &[u8],
@@ -183,53 +125,55 @@ fn list(
     say_defrag(answer, moved_ids, moved_locations);
 }
 
-fn run(
-    id_marks: &mut [u8],
-    locations: &mut [u64],
-    slot_marks: &mut [u8],
-    owners: &mut [u64],
-    batch: &mut [u64],
-    tallies: &mut [u64],
-) {
-    store_and_free(id_marks, locations, slot_marks, owners, batch, tallies);
-    list(
-        locations,
-        slot_marks,
-        owners,
-        batch,
-        tallies,
-        &mut [0; 8],
-        &mut [0; 8],
-    );
-}
-
-fn from_fresh(
-    id_marks: &mut [u8],
-    locations: &mut [u64],
-    slot_marks: &mut [u8],
-    owners: &mut [u64],
-    batch: &mut [u64],
-    tallies: &mut [u64],
-) {
+fn main() {
+    let mut id_marks = [0u8; 9];
+    let mut locations = [0u64; 9];
+    let mut slot_marks = [0u8; 624];
+    let mut owners = [0u64; 624];
+    let mut batch = [0u64; 513];
+    let mut tallies = [0u64; 473];
     rebuild::fresh(
         caps(),
-        id_marks,
-        locations,
-        slot_marks,
-        owners,
-        batch,
-        tallies,
+        &mut id_marks,
+        &mut locations,
+        &mut slot_marks,
+        &mut owners,
+        &mut batch,
+        &mut tallies,
     );
-    run(id_marks, locations, slot_marks, owners, batch, tallies);
-}
-
-fn main() {
-    from_fresh(
-        &mut [0; 9],
-        &mut [0; 9],
-        &mut [0; 624],
-        &mut [0; 624],
-        &mut [0; 513],
-        &mut [0; 473],
+    eight_ids(&mut id_marks, &batch, &mut tallies);
+    batch_of(
+        &mut id_marks,
+        &mut locations,
+        &mut slot_marks,
+        &mut owners,
+        &mut batch,
+        &mut tallies,
+        &[1, 2, 3, 4, 5, 6, 7, 8],
+        &[true, true, true, true, true, true, true, true],
+        &[3, 3, 3, 3, 3, 3, 3, 3],
+        &mut [0; 8],
+    );
+    batch_of(
+        &mut id_marks,
+        &mut locations,
+        &mut slot_marks,
+        &mut owners,
+        &mut batch,
+        &mut tallies,
+        &[1, 2, 3, 5, 7],
+        &[false, false, false, false, false],
+        &[0, 0, 0, 0, 0],
+        &mut [0; 5],
+    );
+    release::release(caps(), &mut id_marks, &mut slot_marks, &batch, &mut tallies);
+    list(
+        &locations,
+        &slot_marks,
+        &owners,
+        &batch,
+        &tallies,
+        &mut [0; 8],
+        &mut [0; 8],
     );
 }
