@@ -22,7 +22,7 @@ use Rattle.model.specs.Rebuild.{rowsOf, rows}
 use Rattle.model.specs.Step.{slabRefusal, refusal, answer}
 use Rattle.model.proofs.Verdicts.{test-ok, then-ok}
 use Rattle.model.proofs.Tables.{elem-not, zeros}
-use Rattle.exports.specs.Status.{statusOf}
+use Rattle.exports_status.specs.Status.{statusOf}
 use Rattle.exports.specs.Answers.{outcomeOf}
 use Rattle.exports.proofs.Laws.{status-exact}
 

@@ -20,7 +20,7 @@ use Rattle.offer.specs.declared.Offered.the-variants as O
 use Rattle.defrag.specs.Answers.{defragOf}
 use Rattle.defrag.specs.declared.Defrag.{Defrag}
 use Rattle.defrag.specs.declared.Defrag.the-variants as D
-use Rattle.exports.specs.Status.{statusOf, valuesIn, exported}
+use Rattle.exports_status.specs.Status.{statusOf, valuesIn, exported}
 use Rattle.exports.specs.Answers.{outcomeOf, whereFits}
 
 -- an index below 2^56 comes back from a status

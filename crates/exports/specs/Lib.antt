@@ -1,2 +1,2 @@
-pub mod Status
+pub mod Leaves
 pub mod Answers

@@ -10,13 +10,14 @@ ghost use Rattle.settings.specs.Outcomes.{storedOutcome, persistentSettingsOutc
 ghost use Rattle.address.specs.Address.{packed, unpacked};
 ghost use Rattle.address.specs.Outcomes.{packedOutcome};
 ghost use Rattle.fragmentation.specs.Answer.{cutoffOf};
-ghost use Rattle.exports.specs.Status.{statusOf, Exported, exported, unpackedInThree, cutoffInTwo};
-use crate::status::WRONG_LENGTH;
-use crate::status::status;
+ghost use Rattle.exports_status.specs.Status.{statusOf, Exported, exported};
+ghost use Rattle.exports.specs.Leaves.{unpackedInThree, cutoffInTwo};
 use crate::values;
 use address::Packed;
 use address::SlabAddress;
 use address::Unpacked;
+use exports_status::WRONG_LENGTH;
+use exports_status::status;
 use fragmentation::Cutoff;
 use frame::Slab;
 use frame::Verdict;

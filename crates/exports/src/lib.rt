@@ -6,7 +6,6 @@ mod batches;
 mod leaves;
 mod moves_and_cuts;
 mod objects;
-mod status;
 mod stores;
 mod values;
 

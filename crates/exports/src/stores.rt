@@ -4,9 +4,9 @@ ghost use Rattle.model.specs.Store.{fresh, rebuild};
 ghost use Rattle.model.specs.Memory.{Memory, memoryOf, read};
 ghost use Rattle.model.specs.MemoryAfter.{memoryAfter};
 ghost use Rattle.model.specs.Step.{answer};
-ghost use Rattle.exports.specs.Status.{statusOf};
+ghost use Rattle.exports_status.specs.Status.{statusOf};
 ghost use Rattle.exports.specs.Answers.{outcomeOf};
-use crate::status::status;
+use exports_status::status;
 use rebuild::Rebuilt;
 use tables::Capacities;
 

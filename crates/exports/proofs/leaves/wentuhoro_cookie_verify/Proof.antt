@@ -1,5 +1,5 @@
 use mathlib.Core.Path.{sym, ap, _∙_}
-use Rattle.exports.specs.Status.{statusOf}
+use Rattle.exports_status.specs.Status.{statusOf}
 use Rattle.settings.specs.declared.Verified.{Verified}
 use Rattle.settings.specs.Outcomes.{verifiedOutcome}
 use Rattle.exports.proofs.leaves.wentuhoro_cookie_verify.Statement.{statement}

@@ -1,5 +1,5 @@
 use mathlib.Core.Path.{_≡_, sym, ap, _∙_}
-use Rattle.exports.specs.Status.{statusOf}
+use Rattle.exports_status.specs.Status.{statusOf}
 use Rattle.settings.specs.Settings.{Storing}
 use Rattle.settings.specs.declared.Stored.{Stored}
 use Rattle.settings.specs.Outcomes.{storedOutcome}

@@ -1,6 +1,7 @@
 use mathlib.Core.Path.{sym, ap, _∙_}
 use Rattle.fragmentation.specs.declared.Cutoff.{Cutoff}
-use Rattle.exports.specs.Status.{statusOf, valuesIn, cutoffInTwo}
+use Rattle.exports_status.specs.Status.{statusOf, valuesIn}
+use Rattle.exports.specs.Leaves.{cutoffInTwo}
 use Rattle.exports.proofs.Laws.{exported-short, exported-is}
 use Rattle.exports.proofs.leaves.wentuhoro_fragmentation_cutoff.Statement.{statement}
 use Rattle.exports.proofs.leaves.wentuhoro_fragmentation_cutoff.Tie as tie

@@ -1,5 +1,5 @@
 use mathlib.Core.Path.{sym, ap, _∙_}
-use Rattle.exports.specs.Status.{statusOf, valuesIn}
+use Rattle.exports_status.specs.Status.{statusOf, valuesIn}
 use Rattle.exports.proofs.Laws.{exported-short, exported-is, one-word}
 use Rattle.frame.specs.declared.Verdict.{Verdict}
 use Rattle.frame.specs.Outcomes.{verdictOutcome}

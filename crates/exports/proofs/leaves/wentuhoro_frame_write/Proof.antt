@@ -1,5 +1,5 @@
 use mathlib.Core.Path.{_≡_, sym, ap, _∙_}
-use Rattle.exports.specs.Status.{statusOf}
+use Rattle.exports_status.specs.Status.{statusOf}
 use Rattle.frame.specs.Frame.{Writing}
 use Rattle.frame.specs.declared.Written.{Written}
 use Rattle.frame.specs.Outcomes.{writtenOutcome}

@@ -1,6 +1,7 @@
 use mathlib.Core.Path.{sym, ap, _∙_}
 use Rattle.address.specs.declared.Unpacked.{Unpacked}
-use Rattle.exports.specs.Status.{statusOf, valuesIn, unpackedInThree}
+use Rattle.exports_status.specs.Status.{statusOf, valuesIn}
+use Rattle.exports.specs.Leaves.{unpackedInThree}
 use Rattle.exports.proofs.Laws.{exported-short, exported-is}
 use Rattle.exports.proofs.leaves.wentuhoro_unpack.Statement.{statement}
 use Rattle.exports.proofs.leaves.wentuhoro_unpack.Tie as tie

@@ -1,7 +1,7 @@
 use mathlib.Core.Path.{sym, ap, _∙_}
 use Rattle.refusal.specs.Outcomes.{Outcome}
 use Rattle.defrag.specs.declared.Defrag.{Defrag}
-use Rattle.exports.specs.Status.{statusOf, valuesIn}
+use Rattle.exports_status.specs.Status.{statusOf, valuesIn}
 use Rattle.exports.specs.Answers.{outcomeOf}
 use Rattle.exports.proofs.Laws.{exported-short, exported-is, one-word, whereFits-short, whereFits-fits, countOf, defrag-outcome}
 use borrow.Author.Needs.{needs}

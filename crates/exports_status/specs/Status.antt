@@ -1,15 +1,11 @@
 -- How an answer passes to C and Rust: one number, and values in a lent slice. Assumes nothing.
 use mathlib.Core.Bool.{cond}
-use mathlib.Core.List.{List, [], _∷_}
+use mathlib.Core.List.{List}
 use Prim.Native.Nat.{ℕ, _+_, _*_, _%_, _^_}
 use lib.Dec.{eqb}
 use lib.ListN.{length}
 use Rattle.refusal.specs.Refusals.{wrongShape}
-use Rattle.refusal.specs.Outcomes.{Outcome, granted, refusedWith, refusedAs}
-use Rattle.address.specs.declared.Unpacked.{Unpacked}
-use Rattle.address.specs.declared.Unpacked.the-variants as U
-use Rattle.fragmentation.specs.declared.Cutoff.{Cutoff}
-use Rattle.fragmentation.specs.declared.Cutoff.the-variants as C
+use Rattle.refusal.specs.Outcomes.{Outcome, granted, refusedWith}
 
 -- 0 where granted, else the refusal's number plus 256 times its index
 abbrev pub statusOf : Outcome → ℕ
@@ -29,15 +25,3 @@ pub record Exported : Type 0 where
 unfoldable pub exported : ℕ → Outcome → List ℕ → Exported
 exported n o lent =
     cond (eqb (length lent) n) (record { status = statusOf o; lent = valuesIn o lent }) (record { status = wrongShape; lent = lent })
-
--- an unpacked location in three values: 1, slab and slot, or three zeros for no object
-abbrev pub unpackedInThree : Unpacked → Outcome
-unpackedInThree (U.At a) = granted (1 ∷ a .slab ∷ a .slot ∷ [])
-unpackedInThree U.NoObject = granted (0 ∷ 0 ∷ 0 ∷ [])
-unpackedInThree (U.Refused r) = refusedAs r
-
--- a cutoff in two values: 1 and the slot, or two zeros for nothing
-abbrev pub cutoffInTwo : Cutoff → Outcome
-cutoffInTwo (C.From slot) = granted (1 ∷ slot ∷ [])
-cutoffInTwo C.Nothing = granted (0 ∷ 0 ∷ [])
-cutoffInTwo (C.Refused r) = refusedAs r
