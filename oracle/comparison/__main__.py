@@ -8,6 +8,7 @@ import time
 from comparison import answers, any_tables, cutoffs, differences, histories, large, leaves, replay, tiny
 from comparison import truncations
 from comparison.beside import LIBRARY, out_of_order, show
+from comparison.progress import doing
 
 BATCHES = 100
 
@@ -60,32 +61,44 @@ def main():
     chance = random.Random(chosen.seed)
     report = Report(chosen.stop_at_first)
 
+    doing("leaves")
     compared, found = leaves.run(chance)
     report.part_beside("leaves", compared, found)
+    doing("f32 cutoffs")
     compared, asserts, found = cutoffs.run(chance, limit, pairs)
     report.part_beside(f"f32 cutoffs ({asserts} listed asserts of the Rust)", compared, found)
+    doing("truncations on files")
     compared, found = truncations.run(chance, cut_limit, passes)
     report.part_beside("truncations on files", compared, found)
+    doing(f"{count} random histories of the mapper")
     compared, refusals, found = histories.run(chance, count, False)
     report.part_beside(f"{count} random histories of the mapper ({refusals} refusals by the model)", compared, found)
+    doing(f"{on_files} random histories of the whole heap")
     compared, refusals, found = histories.run(chance, on_files, True)
     report.part_beside(f"{on_files} random histories of the whole heap", compared, found)
+    doing("every history of a tiny store")
     states, compared, found = tiny.run((3,))
     report.part_beside(f"every history of a tiny store, {states} states", compared, found)
     if chosen.size != "small":
+        doing("every history of a tiny heap")
         states, compared, found = tiny.run((3,), on_files=True)
         report.part_beside(f"every history of a tiny heap, {states} states", compared, found)
+        doing("capacities of 65,536")
         compared, found = large.run(chance)
         report.part_beside("capacities of 65,536", compared, found)
+    doing("the model over any tables")
     calls, seen = any_tables.run(chance, tables)
     missing = sorted(any_tables.EXPECTED ^ seen)
     missing = [f"{name} answers {number} never, or where it may not" for name, number in missing]
     report.part(f"the model over any tables, {calls} calls, kinds of answer", len(seen), missing)
+    doing("listed differences")
     shown, wrong = differences.run()
     report.part("listed differences, each shown on both sides", shown, wrong)
+    doing("answers/, made again")
     lines, rusts, wrong = answers.run(write=False)
     whose = "the Rust's and the library's" if LIBRARY else "the Rust's"
     report.part(f"answers/: {lines} lines, {rusts} of them {whose}", lines, wrong)
+    doing("answers/, replayed on the model")
     answered, wrong = replay.run()
     report.part("answers/ read back and replayed on the model", answered, wrong)
     compare_order(report)
@@ -94,6 +107,7 @@ def main():
 
 def compare_order(report):
     """One thread keeps list order. Two are shown, for what the port leaves behind."""
+    doing(f"list order of {BATCHES} batches")
     one, two = (out_of_order(threads, BATCHES) for threads in (1, 2))
     report.part(f"list order: {one} of {BATCHES} batches out of order with one thread, {two} with two", BATCHES,
                 [f"one thread: {one} batches out of order"] if one else [])

@@ -3,6 +3,7 @@
 from model import BATCH_WORDS, SLABS, Store, pack, refused
 
 from comparison.histories import RATIOS
+from comparison.progress import counted
 
 
 def any_word(chance, store):
@@ -71,7 +72,7 @@ def any_call(chance, store):
 def run(chance, count):
     """(calls, kinds of answer seen: a call's name with a refusal's number, or with 0 for a grant)"""
     seen = set()
-    for _ in range(count):
+    for _ in counted(range(count), "tables"):
         store = any_store(chance, chance.randint(2, 6), chance.randint(1, 5))
         if chance.random() < 0.05:
             table = chance.choice(Store.TABLES)

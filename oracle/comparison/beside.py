@@ -10,7 +10,8 @@ import sys
 HERE = os.path.dirname(os.path.abspath(__file__))
 DRIVER = os.environ.get("ORACLE_DRIVER", os.path.join(HERE, "..", "rust", "target", "release", "oracle"))
 LIBRARY = os.environ.get("ORACLE_LIBRARY")
-CHUNK = 200_000
+# Lines for one process of the driver: few enough that what is done can be told every few seconds.
+CHUNK = 50_000
 
 # What the library answers where the Rust has an error or an assert.
 REFUSED = (

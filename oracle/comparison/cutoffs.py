@@ -8,6 +8,7 @@ beside k. The Rust asserts where the start is at or past the tip; document 01 sa
 import model
 
 from comparison.beside import Beside
+from comparison.progress import counted
 
 STEPS = (-2, -1, 0, 1, 2)
 
@@ -29,7 +30,7 @@ def queries_near(live, k, tips):
 
 
 def all_queries(chance, limit, random_pairs):
-    for free in range(limit):
+    for free in counted(range(limit), "counts of free slots"):
         # The driver keeps one allocator and changes its free count in place, so the free count varies slowest.
         for live in range(1, limit - free):
             k = live + free
@@ -39,7 +40,8 @@ def all_queries(chance, limit, random_pairs):
         for tip in (1, 2, 65_536):
             yield 0, tip, bits
     pairs = [some_pair(chance) for _ in range(random_pairs)]
-    for live, k in sorted(pairs, key=lambda pair: pair[1] - pair[0]):
+    pairs.sort(key=lambda pair: pair[1] - pair[0])
+    for live, k in counted(pairs, "random pairs"):
         yield from queries_near(live, k, (k - 1, k, k + 1))
 
 

@@ -7,6 +7,7 @@ from model import DONE, HELD, KEEP, SLABS, SLAB_SIZES, Store, refused
 
 from comparison import spoken
 from comparison.beside import Beside
+from comparison.progress import counted
 
 T_OF_THE_RUST = 80
 
@@ -216,7 +217,7 @@ def run(chance, count, on_files):
     """(answers compared, histories, refusals by the model alone, differences)"""
     beside = Beside("heap" if on_files else "mapper")
     refusals = 0
-    for _ in range(count):
+    for _ in counted(range(count), "histories"):
         if chance.random() < 0.02:
             ids, slots = chance.randint(200, 400), chance.randint(100, 300)
         else:

@@ -5,6 +5,7 @@ import sys
 import model
 
 from comparison.beside import ask
+from comparison.progress import doing
 
 SIZE = 4_294_967_296
 LARGEST = 4_294_967_284
@@ -13,7 +14,9 @@ LARGEST = 4_294_967_284
 def main():
     lengths = range(LARGEST, LARGEST + 4)
     wrong = 0
-    for length, answer in zip(lengths, ask("mapper", [f"frame_end {SIZE} {length}" for length in lengths])):
+    for length in lengths:
+        doing(f"{length} bytes in a slot of 4 GiB")
+        (answer,) = ask("mapper", [f"frame_end {SIZE} {length}"])
         end = bytes.fromhex(answer.split()[1])
         # Bytes 4,294,967,280 to 283, the length field, the check. The object is all ones.
         as_known = end[:4] == b"\1" * 4 and end[4:12] == length.to_bytes(8, "little")
@@ -21,7 +24,7 @@ def main():
         class_of_model = model.slab_for_size(length)
         wrong += not as_known or class_of_model != (74 if torn else 73)
         print(f"{length} bytes: the Rust's slot ends in {end.hex()}, {torn} object bytes overwritten;"
-              f" model: class {class_of_model}")
+              f" model: class {class_of_model}", flush=True)
     sys.exit(wrong)
 
 

@@ -24,17 +24,20 @@ def build(directory, t):
     assert text.count(CONSTANT.format(80)) == 1
     with open(path, "w", encoding="utf-8") as file:
         file.write(text.replace(CONSTANT.format(80), CONSTANT.format(t)))
-    subprocess.run(["cargo", "build", "--release", "--offline", "--quiet"], cwd=os.path.join(directory, "rust"), check=True)
+    tool = os.path.join(ORACLE, "..", "tools", "build")
+    subprocess.run([tool, f"a copy of the original with t {t}"], cwd=os.path.join(directory, "rust"), check=True)
     return os.path.join(directory, "rust", "target", "release", "oracle")
 
 
 def main():
     from comparison import beside, truncations
+    from comparison.progress import doing
 
     failed = False
     for t in (1, 50, 86, 87):
         with tempfile.TemporaryDirectory() as directory:
             beside.DRIVER = build(directory, t)
+            doing(f"truncations on files, t {t}")
             if t == 87:
                 (answer,) = beside.ask("heap", [ASSERTING[0]])
                 print(f"t 87: {ASSERTING[0]}: {answer}")

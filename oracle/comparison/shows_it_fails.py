@@ -49,7 +49,7 @@ def noticed(root, path):
     else:
         command = [sys.executable, "-m", "comparison", "--size", "small", "--stop-at-first"]
         directory = os.path.join(root, "oracle")
-    environment = {**os.environ, "ORACLE_DRIVER": os.path.abspath(DRIVER), "PYTHONDONTWRITEBYTECODE": "1"}
+    environment = {**os.environ, "ORACLE_DRIVER": os.path.abspath(DRIVER), "PYTHONDONTWRITEBYTECODE": "1", "ORACLE_QUIET": "1"}
     result = subprocess.run(command, cwd=directory, env=environment, capture_output=True, text=True)
     words = [line for line in (result.stdout + result.stderr).split("\n") if line.strip()]
     return result.returncode != 0, words

@@ -17,6 +17,7 @@ from model import DONE, KEEP, SLABS, Store, refused
 from comparison import spoken
 from comparison.beside import Beside
 from comparison.histories import T_OF_THE_RUST
+from comparison.progress import NowAndThen
 
 IDS = SLOTS = 3
 RATIOS = (0x3F800000, 0x3F400000, 0x3F000000, 0x3EAAAAAB, 0x3F2AAAAB, 0x00000001)
@@ -115,7 +116,9 @@ def run(lengths, on_files=False):
         store = Store(IDS, SLOTS)
         assert not refused(store.rebuild(*(list(zip(*rows)) or [(), ()])))
         reach(store, (spoken.rebuild(rows),))
+    now_and_then = NowAndThen()
     while waiting:
+        now_and_then.doing(lambda: f"  {len(reached) - len(waiting):,} of {len(reached):,} states reached so far")
         store, path = waiting.popleft()
         beside.begin()
         for line in path:

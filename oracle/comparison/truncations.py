@@ -8,6 +8,7 @@ from model import DONE, KEEP, SLABS, SLAB_SIZES, Store
 
 from comparison.beside import Beside
 from comparison.histories import T_OF_THE_RUST
+from comparison.progress import counted
 
 
 def after(slab, tip, high, t):
@@ -42,12 +43,12 @@ def run(chance, limit, passes, t=T_OF_THE_RUST):
     beside = Beside(f"heap 2 1 {t}")
     compared = 0
     pairs = [(tip, high) for tip in range(1, limit) for high in range(limit)]
-    for first in range(0, len(pairs), SLABS):
+    for first in counted(range(0, len(pairs), SLABS), "passes over every tip and high mark"):
         slabs = list(range(SLABS))
         chance.shuffle(slabs)
         rows = [(slab, tip, high) for slab, (tip, high) in zip(slabs, pairs[first : first + SLABS])]
         compared += ask_about(beside, rows, t)
-    for _ in range(passes):
+    for _ in counted(range(passes), "passes at random"):
         rows = []
         for slab in range(SLABS):
             tip = chance.randint(1, 256)

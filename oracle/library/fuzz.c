@@ -503,8 +503,14 @@ int main(int argc, char **argv) {
     check_sizes();
     make_regions();
     uint64_t cases = 0, missing = 0;
-    for (double begun = now(); now() - begun < seconds;)
+    double passed, said = 0;
+    for (double begun = now(); (passed = now() - begun) < seconds;) {
+        if (passed - said >= 10) {
+            said = passed;
+            fprintf(stderr, "    %.0f of %.0f s: %" PRIu64 " cases\n", passed, seconds, cases);
+        }
         for (int i = 0; i < 100; i++) one_case(++cases % 100000 == 0);
+    }
     for (int call = 0; call < CALLS; call++) {
         fprintf(stderr, "%-14s %9" PRIu64 " granted", listed[call].name, answered[call][0]);
         missing += answered[call][0] == 0;

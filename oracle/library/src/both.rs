@@ -116,6 +116,7 @@ pub fn compare(count: u64, seed: u64) -> i32 {
     let small = count < 10_000;
     let mut part = |words: &str, work: &mut dyn FnMut(&mut Counts) -> String| {
         let mut counts = Counts::default();
+        eprintln!("{:6.1} s  {words} ..", begun.elapsed().as_secs_f64());
         let found = work(&mut counts);
         println!(
             "{:6.1} s  {words}{found}: {} compared, {} of them refusals, {} listed differences met, {} unlisted",

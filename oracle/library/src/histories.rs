@@ -4,6 +4,7 @@ use crate::calls::Call;
 use crate::chance::Chance;
 use crate::object_location_mapper::probe::location;
 use crate::our_leaves::tail_bytes;
+use crate::progress::Progress;
 use crate::tables::{Update, ALLOCATORS, SLABS};
 use wentuhoro::SLAB_SIZES;
 
@@ -210,7 +211,9 @@ fn some_capacities(chance: &mut Chance) -> (u64, u64) {
 }
 
 pub fn mapper(counts: &mut Counts, chance: &mut Chance, count: u64) {
-    for _ in 0..count {
+    let mut progress = Progress::new();
+    for done in 0..count {
+        progress.tell(done as usize, count as usize, "histories");
         let (ids, slots) = some_capacities(chance);
         let (lengths, calls) = (some_lengths(chance, SLABS as u64 - 1), chance.among(5, 60));
         History { both: Both::mapper(ids, slots), counts, chance, lengths, on_files: false }.run(calls);
@@ -218,7 +221,9 @@ pub fn mapper(counts: &mut Counts, chance: &mut Chance, count: u64) {
 }
 
 pub fn heap(counts: &mut Counts, chance: &mut Chance, count: u64) {
-    for _ in 0..count {
+    let mut progress = Progress::new();
+    for done in 0..count {
+        progress.tell(done as usize, count as usize, "histories");
         let (ids, slots) = some_capacities(chance);
         let (lengths, calls) = (some_lengths(chance, LARGEST_SLAB_ON_FILES), chance.among(5, 60));
         History { both: Both::heap(ids, slots), counts, chance, lengths, on_files: true }.run(calls);

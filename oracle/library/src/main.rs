@@ -42,6 +42,7 @@ mod leaf_lines;
 mod our_heap;
 mod our_leaves;
 mod ours;
+mod progress;
 mod tables;
 mod tiny;
 

@@ -9,6 +9,7 @@ use std::hash::{DefaultHasher, Hash, Hasher};
 use crate::both::{Both, Counts};
 use crate::calls::Call;
 use crate::ours::state;
+use crate::progress::Progress;
 use crate::tables::Update;
 
 /// Id capacity, slot capacity, a length for each slab.
@@ -105,7 +106,9 @@ pub fn closure(counts: &mut Counts, ids: u64, slots: u64, lengths: &[u64]) -> us
         let mut both = search.both_after(&path);
         search.reach(&mut both, path);
     }
+    let mut progress = Progress::new();
     while let Some(path) = search.waiting.pop_front() {
+        progress.tell(search.reached.len() - search.waiting.len(), search.reached.len(), "states reached so far");
         if counts.differences > 0 {
             break;
         }
