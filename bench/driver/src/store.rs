@@ -5,7 +5,7 @@ use crate::id_allocator::probe::set_free_and_tip;
 use crate::original::Original;
 use crate::ours::{Batch, Ours};
 use crate::picture::Picture;
-use crate::timing::{best, Best};
+use crate::timing::{best, Usual};
 
 const CAPACITY: usize = 65_536;
 const BATCH: usize = 256;
@@ -105,11 +105,11 @@ impl Both {
 }
 
 /// Times of both sides, for each of some things.
-struct Pairs(Vec<(Best, Best)>);
+struct Pairs(Vec<(Usual, Usual)>);
 
 impl Pairs {
     fn new(count: usize) -> Pairs {
-        Pairs((0..count).map(|_| (Best::new(), Best::new())).collect())
+        Pairs((0..count).map(|_| (Usual::new(), Usual::new())).collect())
     }
 
     /// One thing done on both sides, with the same answer.
@@ -295,7 +295,7 @@ fn fixed_costs(rounds: u32, picture: &mut Picture) {
     let mut b = |calls| (0..calls).for_each(|_| { black_box(rust.defrag()); });
     let t = best(rounds, 100, &mut [&mut a, &mut b]);
     table.row("defrag list of no rows", t[0], t[1]);
-    let (mut fresh, mut made) = (Best::new(), Best::new());
+    let (mut fresh, mut made) = (Usual::new(), Usual::new());
     let mut other = Ours::new(64, 64);
     for _ in 0..rounds * 20 {
         fresh.of(|| other.fresh());
@@ -306,7 +306,7 @@ fn fixed_costs(rounds: u32, picture: &mut Picture) {
 }
 
 fn ours_alone(rounds: u32, table: &mut Table, ours: &mut Ours) {
-    let mut abandon = Best::new();
+    let mut abandon = Usual::new();
     for _ in 0..rounds * 50 {
         ours.offer(&mut Batch::stores([1], |_| 3));
         abandon.of(|| ours.abandon());
@@ -316,7 +316,7 @@ fn ours_alone(rounds: u32, table: &mut Table, ours: &mut Ours) {
     table.ours_alone("counters, all 79 pairs", counters[0]);
     let truncation = best(rounds, 1_000, &mut [&mut |calls| (0..calls).for_each(|_| { black_box(ours.truncation(0)); })]);
     table.ours_alone("truncation of one slab", truncation[0]);
-    let mut cut_done = Best::new();
+    let mut cut_done = Usual::new();
     for _ in 0..rounds * 50 {
         ours.tallies[395] = 63;
         cut_done.of(|| ours.cut_done(0));

@@ -15,29 +15,31 @@ pub fn best(rounds: u32, calls: u32, works: &mut [&mut dyn FnMut(u32)]) -> Vec<f
     least
 }
 
-/// The best time of something that is done now and then, between other things.
-pub struct Best(f64);
+/// What something takes that is done now and then, between other things: the mean of all times but the slowest quarter. The least would be of no
+/// use where a clock counts in tens of nanoseconds.
+pub struct Usual(Vec<f64>);
 
-impl Best {
-    pub fn new() -> Best {
-        Best(f64::INFINITY)
+impl Usual {
+    pub fn new() -> Usual {
+        Usual(Vec::new())
     }
 
     pub fn of<T>(&mut self, work: impl FnOnce() -> T) -> T {
         let start = Instant::now();
         let answer = work();
-        self.0 = self.0.min(start.elapsed().as_nanos() as f64);
+        self.0.push(start.elapsed().as_nanos() as f64);
         answer
     }
 
     /// Nanoseconds for each of so many, without what the clock itself takes.
     pub fn each(&self, count: usize) -> f64 {
-        (self.0 - clock()).max(1.0) / count as f64
+        let looks = (0..1_000).map(|_| Instant::now().elapsed().as_nanos() as f64).collect();
+        (usual(self.0.clone()) - usual(looks)).max(0.1) / count as f64
     }
 }
 
-/// What two looks at the clock take.
-fn clock() -> f64 {
-    let looks = (0..1_000).map(|_| Instant::now().elapsed().as_nanos() as f64);
-    looks.fold(f64::INFINITY, f64::min)
+fn usual(mut times: Vec<f64>) -> f64 {
+    times.sort_by(f64::total_cmp);
+    times.truncate((times.len() * 3).div_ceil(4));
+    times.iter().sum::<f64>() / times.len() as f64
 }
