@@ -1,67 +1,52 @@
-// A file of single calls: nothing is carried from line to line. Whether each answers as its line says; a line that cannot be read does not.
-use crate::addresses;
-use crate::checks;
-use crate::classes;
-use crate::cookies;
-use crate::cutoffs;
-use crate::frames;
+// A file of single calls: nothing is carried from line to line.
+use crate::numbers;
+use crate::slots;
 use replay_words::file;
-use replay_words::source;
+use replay_words::line;
 use replay_words::tally::Tally;
-use replay_words::words;
 
-// Makes the call of this name; its arguments and its answer are the words after the name.
-fn call(name: &[u8], rest: &[u8]) -> bool {
-    if words::same(name, b"class") {
-        return classes::class(rest);
-    }
-    if words::same(name, b"crc") {
-        return checks::crc(rest);
-    }
-    if words::same(name, b"cutoff") {
-        return cutoffs::cutoff(rest);
-    }
-    call_on_bytes(name, rest)
-}
+const CLASS: u64 = 1;
 
-fn call_on_bytes(name: &[u8], rest: &[u8]) -> bool {
-    if words::same(name, b"frame") {
-        return frames::frame(rest);
-    }
-    if words::same(name, b"unframe") {
-        return frames::unframe(rest);
-    }
-    if words::same(name, b"cookie") {
-        return cookies::cookie(rest);
-    }
-    if words::same(name, b"uncookie") {
-        return cookies::uncookie(rest);
-    }
-    call_on_addresses(name, rest)
-}
+const PACK: u64 = 2;
 
-fn call_on_addresses(name: &[u8], rest: &[u8]) -> bool {
-    if words::same(name, b"pack") {
-        return addresses::pack(rest);
-    }
-    if words::same(name, b"unpack") {
-        return addresses::unpack(rest);
-    }
-    false
-}
+const UNPACK: u64 = 3;
+
+const CUTOFF: u64 = 4;
+
+const CRC: u64 = 5;
+
+const FRAME: u64 = 6;
+
+const UNFRAME: u64 = 7;
+
+const COOKIE: u64 = 8;
+
+const UNCOOKIE: u64 = 9;
 
 fn agrees(line: &[u8]) -> bool {
-    source::is_remark(line)
-        || source::is_call(line) && call(words::word(line, 1), words::after(line, 2))
+    match line::kind(line) {
+        CLASS => numbers::class(line),
+        PACK => numbers::pack(line),
+        UNPACK => numbers::unpack(line),
+        CUTOFF => numbers::cutoff(line),
+        CRC => slots::crc(line),
+        FRAME => slots::frame(line),
+        UNFRAME => slots::unframe(line),
+        COOKIE => slots::cookie(line),
+        UNCOOKIE => slots::uncookie(line),
+        _ => false,
+    }
 }
 
 fn each_line(name: &[u8], text: &[u8]) -> Tally {
     let mut tally = Tally::new();
     let mut at = 0;
     while at < text.len() {
-        let line = file::line_at(text, at);
+        let left = &text[at..];
+        let n = line::bytes(left);
+        let line = &left[0..n];
         tally = tally.with_line(name, line, agrees(line));
-        at = file::next_line(text, at);
+        at += n;
     }
     tally
 }

@@ -1,21 +1,14 @@
-// The oracle's answers, replayed: each line of data/ says a call and what it has to answer; the call is made on the library and the
-// answer compared. Standard output has a line for each file: its lines, the calls compared, how many of those answers are the
-// Rust's, and the lines that differ, of which the first few are named. A line that cannot be read counts as one that differs.
+// The oracle's answers, replayed: each line of data/ says a call and what the exported function has to answer; the call is made and the
+// answer compared. Standard output has a line for each file: the calls compared, how many of those answers are the Rust's, and how many
+// differ, of which the first few are named by their line in the readable list. A line of no kind counts as one that differs.
 //
-// data/ holds copies of oracle/answers/*.txt, and stdout what counting their lines gives; `oracle/replay_data` makes both. The
-// grammar is in oracle/answers/README.md.
-mod addresses;
-mod blob;
+// oracle/replay_data makes data/ of oracle/answers/*.txt, and stdout by counting there. The words of a line are in oracle/answers/README.md.
 mod calls;
-mod checks;
-mod classes;
-mod cookies;
-mod cutoffs;
-mod digits;
-mod frames;
-mod lent;
+mod numbers;
+mod said;
+mod slots;
 
 fn main() {
-    calls::file(b"leaves.txt");
-    calls::file(b"cutoffs.txt");
+    calls::file(b"leaves.words");
+    calls::file(b"cutoffs.words");
 }

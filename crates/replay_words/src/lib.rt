@@ -1,14 +1,12 @@
-// The lists of the oracle's answers, as oracle/answers/README.md has their grammar: a file and its lines, a line's words, what it says was
-// answered, and the count of the lines that agree; and parts of the space that a program lends.
+// The lists of the oracle's answers as words, which oracle/replay_data makes of the readable ones: a line for each call, the words of its
+// answer and of what it is asked with (oracle/answers/README.md), and the count of the lines that agree.
 //
-//     let answer = words::after(line, 3);
-//     told::refused(answer, refusal)  // whether the line says this refusal
+//     let length = line::word(line, 5);
+//     line::says_one(line, status, slab)  // whether the line says this answer
 //
-// For the programs `replay` and `replay_stores`, which make each call of the lists on the library and compare, and for `vectors`.
+// For the programs `replay` and `replay_stores`, which make each call on the exported library and compare.
 pub mod file;
-pub mod front;
+pub mod line;
 pub mod ratios;
-pub mod source;
+pub mod rows;
 pub mod tally;
-pub mod told;
-pub mod words;

@@ -1,9 +1,10 @@
-// How many lines, calls and differences a file has.
-use crate::source;
+// How many calls and differences a file has, and how many of the answers are the Rust's.
+ghost use mathlib.Core.Path.{_≡_};
+ghost use Rattle.replay_words.specs.Tallies.{more, nothing, tallyWith};
+use crate::line;
 use libc::STDOUT_FILENO;
 
 pub struct Tally {
-    lines: u64,
     calls: u64,
     rusts: u64,
     differences: u64,
@@ -12,7 +13,12 @@ pub struct Tally {
 // So many differences are named.
 const NAMED: u64 = 8;
 
-fn one_more(n: u64) -> u64 {
+fn more(n: u64, is_more: bool) -> u64
+    ensures { λ r. ⌜ r ≡ more n «is_more» ⌝ }
+{
+    if !is_more {
+        return n;
+    }
     if n < 18446744073709551615 { n + 1 } else { n }
 }
 
@@ -26,65 +32,48 @@ fn count(n: u64, words: &[u8]) {
     text(words);
 }
 
+// Names a line that differs, after so many others.
+fn name_difference(name: &[u8], line: &[u8], others: u64, agrees: bool) {
+    if !agrees && others < NAMED {
+        text(name);
+        text(b": line");
+        count(line::number(line), b" of its list differs\n");
+    }
+}
+
 impl Tally {
-    pub fn new() -> Tally {
+    pub fn new() -> Tally
+        ensures { λ r. ⌜ r ≡ nothing ⌝ }
+    {
         Tally {
-            lines: 0,
             calls: 0,
             rusts: 0,
             differences: 0,
         }
     }
 
-    fn with_call(mut self) -> Tally {
-        self.calls = one_more(self.calls);
-        self
-    }
-
-    fn with_rust(mut self) -> Tally {
-        self.rusts = one_more(self.rusts);
-        self
-    }
-
-    // What the line is: a call or another line, and whose answer it has.
-    fn with_source(mut self, line: &[u8]) -> Tally {
-        self.lines = one_more(self.lines);
-        if source::is_rust(line) {
-            return self.with_call().with_rust();
-        }
-        if source::is_call(line) {
-            return self.with_call();
-        }
-        self
-    }
-
-    // The line counted last differs.
-    fn with_difference(mut self, name: &[u8]) -> Tally {
-        self.differences = one_more(self.differences);
-        if self.differences <= NAMED {
-            text(name);
-            text(b": line");
-            count(self.lines, b" differs\n");
-        }
-        self
-    }
-
     // One more line of the file of this name.
-    pub fn with_line(self, name: &[u8], line: &[u8], agrees: bool) -> Tally {
-        let counted = self.with_source(line);
-        if agrees {
-            counted
-        } else {
-            counted.with_difference(name)
+    pub fn with_line(self, name: &[u8], line: &[u8], agrees: bool) -> Tally
+        ensures { λ r. ⌜ r ≡ tallyWith self (now (line .entry)) agrees ⌝ }
+    {
+        name_difference(name, line, self.differences, agrees);
+        let source = line::source(line);
+        Tally {
+            calls: more(self.calls, source != line::NO_CALL),
+            rusts: more(self.rusts, source == line::RUST),
+            differences: more(self.differences, !agrees),
         }
     }
 
-    pub fn say(self, name: &[u8]) {
+    // Says them, and answers how many differences there are.
+    pub fn say(self, name: &[u8]) -> u64
+        ensures { λ r. ⌜ r ≡ self .differences ⌝ }
+    {
         text(name);
         text(b":");
-        count(self.lines, b" lines,");
         count(self.calls, b" calls compared,");
         count(self.rusts, b" of the answers the Rust's,");
         count(self.differences, b" differences\n");
+        self.differences
     }
 }

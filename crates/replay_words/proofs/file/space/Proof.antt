@@ -1,12 +1,14 @@
--- The length, by the law on repeats.
-use mathlib.Core.Path.{sym}
+-- `replay_words::file::space` meets its contract: the length by the law on repeats. Assumes nothing.
+use mathlib.Core.Path.{refl, sym}
 use Prim.Native.Nat.{ℕ}
 use lib.ListN.{length-replicate}
+use Rattle.replay_words.specs.Space.{zeros}
 use Rattle.replay_words.proofs.file.space.Statement.{statement}
 use Rattle.replay_words.proofs.file.space.Tie as tie
 
 returns : tie.Need-returns
-returns c = sym (length-replicate {A = ℕ} 524288 0)
+unfolding zeros
+returns c = (refl, sym (length-replicate {A = ℕ} 1048576 0))
 
 pub space-spec : {M : Type 1} → statement M
 space-spec = tie.close (tie.spec returns)

@@ -1,0 +1,52 @@
+// Columns of rows, for what a call is asked with and for what it answers.
+ghost use Prim.Native.Nat.{_≤_};
+use replay_words::line;
+use replay_words::rows;
+
+// The most ids of a store, the most slots of a slab, and the most rows of a call.
+pub const MOST: usize = 512;
+
+// What is lent for an answer holds some number before the call, and not 0, so that what the call leaves of it can be told.
+pub const ANY: u64 = 165;
+
+pub fn column() -> [u64; MOST] {
+    [ANY; MOST]
+}
+
+// The rows that word 4 says. Where it says more than there can be, the call gets none, and differs.
+pub fn said(line: &[u8]) -> usize
+    ensures { λ r. ⌜ r ≤ 512 ⌝ }
+{
+    let n = line::word(line, 4);
+    if n <= MOST as u64 { n as usize } else { 0 }
+}
+
+// The n words from word `from` on, in a column's first rows.
+pub fn words(line: &[u8], from: u32, n: usize) -> [u64; MOST]
+    requires { ⌜ n ≤ 512 ⌝ }
+{
+    let mut column = column();
+    rows::put(line, from, &mut column[0..n]);
+    column
+}
+
+// Likewise kinds: 1 for a Store, 0 for a Free.
+pub fn are_stores(line: &[u8], from: usize, n: usize) -> [bool; MOST]
+    requires { ⌜ (from ≤ 2048) × (n ≤ 512) ⌝ }
+{
+    let mut kinds = [false; MOST];
+    let mut i = 0;
+    while i < n {
+        kinds[i] = line::word(line, from + i) == 1;
+        i += 1;
+    }
+    kinds
+}
+
+// Whether a column's first rows are the n words from word `from` on.
+pub fn hold(line: &[u8], from: u32, column: &[u64; MOST], n: usize) -> bool
+    requires { ⌜ n ≤ 512 ⌝ }
+{
+    let all: &[u64] = column;
+    rows::hold(line, from, &all[0..n])
+}

@@ -1,0 +1,151 @@
+// Lines that only read: lookups, lists of what to move, counters, and peeks.
+ghost use Prim.Native.Nat.{_≤_};
+use crate::columns;
+use crate::kinds;
+use crate::pokes;
+use replay_words::line;
+use replay_words::ratios;
+use tables::ALLOCATORS;
+
+fn lookup(
+    ids: usize,
+    slots: usize,
+    id_marks: &[u8],
+    locations: &[u64],
+    slot_marks: &[u8],
+    owners: &[u64],
+    tallies: &[u64],
+    line: &[u8],
+) -> bool {
+    let mut v = [0u64; 1];
+    let status = exports::wentuhoro_lookup(
+        ids,
+        slots,
+        id_marks,
+        locations,
+        slot_marks,
+        owners,
+        tallies,
+        line::word(line, 5),
+        &mut v,
+    );
+    line::says_one(line, status, v[0])
+}
+
+// A list that a defrag is lent has a row for each id above 0.
+fn most_moved(ids: usize) -> usize
+    ensures { λ r. ⌜ r ≤ 512 ⌝ }
+{
+    if ids == 0 {
+        return 0;
+    }
+    if columns::MOST < ids { 0 } else { ids - 1 }
+}
+
+// The rows that are to move, in the first rows of two lists.
+fn defrag(
+    ids: usize,
+    slots: usize,
+    locations: &[u64],
+    slot_marks: &[u8],
+    owners: &[u64],
+    batch: &[u64],
+    tallies: &[u64],
+    line: &[u8],
+) -> bool {
+    let mut v = [0u64; 1];
+    let mut moved_ids = columns::column();
+    let mut moved_locations = columns::column();
+    let most = most_moved(ids);
+    let status = exports::wentuhoro_defrag(
+        ids,
+        slots,
+        locations,
+        slot_marks,
+        owners,
+        batch,
+        tallies,
+        ratios::ratio(line::word(line, 5)),
+        &mut moved_ids[0..most],
+        &mut moved_locations[0..most],
+        &mut v,
+    );
+    let n = columns::said(line);
+    line::says_one(line, status, v[0])
+        & columns::hold(line, 6, &moved_ids, n)
+        & columns::hold(line, 6 + n as u32, &moved_locations, n)
+}
+
+fn counters(ids: usize, slots: usize, tallies: &[u64], line: &[u8]) -> bool {
+    let mut v = [0u64; 4];
+    let status = exports::wentuhoro_stats(ids, slots, tallies, &mut v);
+    line::says_three(line, status, v[0], v[1], v[2]) & (v[3] == line::word(line, 7))
+}
+
+// ALLOCATOR GRANTED FREED: one pair of what the counters before it answered. They are asked again, since nothing has changed them in
+// between.
+fn counted(ids: usize, slots: usize, tallies: &[u64], line: &[u8]) -> bool {
+    let mut granted = [0u64; ALLOCATORS];
+    let mut freed = [0u64; ALLOCATORS];
+    let status = exports::wentuhoro_counters(ids, slots, tallies, &mut granted, &mut freed);
+    let allocator = line::word(line, 3) as usize;
+    if ALLOCATORS <= allocator {
+        return false;
+    }
+    (status == 0)
+        & (granted[allocator] == line::word(line, 4))
+        & (freed[allocator] == line::word(line, 5))
+}
+
+pub fn agrees(
+    ids: usize,
+    slots: usize,
+    id_marks: &[u8],
+    locations: &[u64],
+    slot_marks: &[u8],
+    owners: &[u64],
+    batch: &[u64],
+    tallies: &[u64],
+    line: &[u8],
+) -> bool {
+    match line::kind(line) {
+        kinds::LOOKUP => {
+            lookup(
+                ids,
+                slots,
+                id_marks,
+                locations,
+                slot_marks,
+                owners,
+                tallies,
+                line,
+            )
+        }
+        kinds::DEFRAG => {
+            defrag(
+                ids,
+                slots,
+                locations,
+                slot_marks,
+                owners,
+                batch,
+                tallies,
+                line,
+            )
+        }
+        kinds::COUNTERS => counters(ids, slots, tallies, line),
+        kinds::COUNTED => counted(ids, slots, tallies, line),
+        kinds::PEEK => {
+            pokes::peek(
+                id_marks,
+                locations,
+                slot_marks,
+                owners,
+                batch,
+                tallies,
+                line,
+            )
+        }
+        _ => false,
+    }
+}
