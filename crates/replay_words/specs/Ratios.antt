@@ -5,9 +5,9 @@ use lib.Dec.{ltb}
 use lib.Ieee as Ieee
 use lib.Ieee.{Float, binary32, nan}
 
-abbrev pub numberOf : ℕ → Float
-numberOf bits = Ieee.ofBits binary32 bits
+abbrev pub floatOf : ℕ → Float
+floatOf bits = Ieee.ofBits binary32 bits
 
 -- bits past those of infinity, the sign aside, are no number's
 unfoldable pub ratioOf : ℕ → Float
-ratioOf bits = cond (ltb 0xFFFF_FFFF bits || ltb 0x7F80_0000 (bits % 0x8000_0000)) nan (numberOf bits)
+ratioOf bits = cond (ltb 0xFFFF_FFFF bits || ltb 0x7F80_0000 (bits % 0x8000_0000)) nan (floatOf bits)
