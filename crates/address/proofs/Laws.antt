@@ -7,7 +7,8 @@ use lib.Dec.{leb, ltb, eqb}
 use borrow.Author.Tests.{ltb-true, ltb-false, leb-true, leb-false, lt-ltb, le-leb, lt-leb, ne-eqb}
 use Rattle.refusal.specs.Refusals.{refusal, wrongShape, outOfRange}
 use Rattle.refusal.proofs.Tests.{or-false}
-use Rattle.address.specs.Address.{badSlots, packing, packed, unpacked, unit, slabs}
+use Rattle.address.specs.Address.{badSlots, packing, packed, unpacked, unit}
+use Rattle.sizes.specs.Sizes.{slabs}
 use Rattle.address.specs.declared.SlabAddress.{SlabAddress}
 use Rattle.address.specs.declared.Packed.the-variants as P
 use Rattle.address.specs.declared.Unpacked.the-variants as U

@@ -3,6 +3,7 @@ use mathlib.Core.Bool.{Bool, cond, _&&_, _||_}
 use Prim.Native.Nat.{ℕ, _+_, _*_, _-_, _/_, _%_, _^_}
 use lib.Dec.{leb, ltb, eqb}
 use Rattle.refusal.specs.Refusals.{refusal, wrongShape, outOfRange}
+pub use Rattle.sizes.specs.Sizes.{slabs}
 use Rattle.address.specs.declared.SlabAddress.{SlabAddress}
 use Rattle.address.specs.declared.Made.{Made}
 use Rattle.address.specs.declared.Made.the-variants as M
@@ -11,12 +12,10 @@ use Rattle.address.specs.declared.Packed.the-variants as P
 use Rattle.address.specs.declared.Unpacked.{Unpacked}
 use Rattle.address.specs.declared.Unpacked.the-variants as U
 
-abbrev pub slabs : ℕ
-slabs = 78
-
 abbrev pub largestSlot : ℕ
 largestSlot = 65535
 
+-- the largest slot capacity, and so the largest tip
 abbrev pub mostSlots : ℕ
 mostSlots = 65536
 
@@ -47,6 +46,11 @@ packed slots a =
     cond (badSlots slots) (P.Refused (refusal wrongShape 0))
     (cond (leb slabs (a .slab) || leb slots (a .slot)) (P.Refused (refusal outOfRange 0))
     (P.Location (packing (a .slab) (a .slot))))
+
+-- the location, and 0 where it is refused
+abbrev pub locationIn : Packed → ℕ
+locationIn (P.Location location) = location
+locationIn (P.Refused r) = 0
 
 unfoldable pub unpacked : ℕ → ℕ → Unpacked
 unpacked slots location =

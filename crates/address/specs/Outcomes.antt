@@ -1,6 +1,6 @@
 -- The outcome of each answer: document 01's number and values. Assumes nothing.
 use mathlib.Core.List.{[], _∷_}
-use Rattle.refusal.specs.Outcomes.{Outcome, granted, refusedAs}
+use Rattle.refusal.specs.Outcomes.{Values, granted, refusedAs}
 use Rattle.address.specs.declared.Made.{Made}
 use Rattle.address.specs.declared.Made.the-variants as M
 use Rattle.address.specs.declared.Packed.{Packed}
@@ -8,15 +8,15 @@ use Rattle.address.specs.declared.Packed.the-variants as P
 use Rattle.address.specs.declared.Unpacked.{Unpacked}
 use Rattle.address.specs.declared.Unpacked.the-variants as U
 
-abbrev pub madeOutcome : Made → Outcome
+abbrev pub madeOutcome : Made → Values
 madeOutcome (M.At a) = granted (a .slab ∷ a .slot ∷ [])
 madeOutcome (M.Refused r) = refusedAs r
 
-abbrev pub packedOutcome : Packed → Outcome
+abbrev pub packedOutcome : Packed → Values
 packedOutcome (P.Location location) = granted (location ∷ [])
 packedOutcome (P.Refused r) = refusedAs r
 
-abbrev pub unpackedOutcome : Unpacked → Outcome
+abbrev pub unpackedOutcome : Unpacked → Values
 unpackedOutcome (U.At a) = granted (a .slab ∷ a .slot ∷ [])
 unpackedOutcome U.NoObject = granted []
 unpackedOutcome (U.Refused r) = refusedAs r

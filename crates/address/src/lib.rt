@@ -39,7 +39,7 @@ pub fn bad_slots(slots: usize) -> bool
 }
 
 impl SlabAddress {
-    pub const SLABS: usize = 78;
+    pub const SLABS: usize = sizes::SLABS;
 
     pub const LARGEST_SLOT: usize = 65535;
 

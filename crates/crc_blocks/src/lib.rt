@@ -26,7 +26,8 @@ fn seed(register: u32) -> [u8; 2563]
 // n bytes at i are put off.
 fn put_off(y: &mut [u8], s: &[u8], i: usize, n: usize)
     requires { ⌜ (n ≤ 2048) × (i + n + 515 ≤ length (now s)) × (length (now y) ≡ 2563) ⌝ }
-    ensures { λ _. ⌜ left (now (s .entry)) i (pend (take 515 (now (y .entry)))) ≡ left (now (s .entry)) (i + n) (pend (take 515 (drop n (now (y .exit))))) ⌝ }
+    ensures { λ _. ⌜ left (now (s .entry)) i (pend (take 515 (now (y .entry))))
+        ≡ left (now (s .entry)) (i + n) (pend (take 515 (drop n (now (y .exit))))) ⌝ }
 {
     let mut j = 0;
     while j < n {
@@ -50,7 +51,8 @@ fn slide(y: &mut [u8])
 // The last 515 bytes go into t, before as many zeros.
 fn window(t: &mut [u8], y: &[u8], n: usize)
     requires { ⌜ (n ≤ 2048) × (length (now y) ≡ 2563) × (length (now t) ≡ 1030) × ((k : ℕ) → getD (now t) k 0 ≡ 0) ⌝ }
-    ensures { λ _. ⌜ ((k : ℕ) → getD (now (t .exit)) k 0 ≡ getD (take 515 (drop n (now (y .entry)))) k 0) × ((k : ℕ) → getD (now (t .exit)) k 0 < 2 ^ 8) ⌝ }
+    ensures { λ _. ⌜ ((k : ℕ) → getD (now (t .exit)) k 0 ≡ getD (take 515 (drop n (now (y .entry)))) k 0)
+        × ((k : ℕ) → getD (now (t .exit)) k 0 < 2 ^ 8) ⌝ }
 {
     let mut j = 0;
     while j < 515 {
@@ -62,7 +64,9 @@ fn window(t: &mut [u8], y: &[u8], n: usize)
 // What is pending goes into the last 515 bytes of s.
 fn settle(t: &mut [u8], s: &[u8], i: usize)
     requires { ⌜ (i + 515 ≡ length (now s)) × (length (now t) ≡ 1030) × ((k : ℕ) → 515 ≤ k → getD (now t) k 0 ≡ 0) ⌝ }
-    ensures { λ _. ⌜ (((k : ℕ) → getD (now (s .entry)) k 0 < 2 ^ 8) → ((k : ℕ) → getD (now (t .entry)) k 0 < 2 ^ 8) → crcOver 0 (take 515 (now (t .exit))) ≡ left (now (s .entry)) i (pend (now (t .entry)))) ⌝ }
+    ensures { λ _. ⌜ (((k : ℕ) → getD (now (s .entry)) k 0 < 2 ^ 8)
+        → ((k : ℕ) → getD (now (t .entry)) k 0 < 2 ^ 8)
+        → crcOver 0 (take 515 (now (t .exit))) ≡ left (now (s .entry)) i (pend (now (t .entry)))) ⌝ }
 {
     let mut j = 0;
     while j < 515 {

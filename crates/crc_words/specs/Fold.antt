@@ -29,7 +29,9 @@ held z = num (z .a) (z .b) (z .c) (z .d) (z .e)
 
 -- what the words d, c, b and a, put off one after the other, leave on the second word after a
 unfoldable pub pulled : ℕ → ℕ → ℕ → ℕ → ℕ
-pulled a b c d = bitXor (bitXor (bitXor (bitXor (up 17 a) (b / 2 ^ 47)) (up 44 c)) (bitXor (bitXor (up 55 a) (b / 2 ^ 9)) (up 19 b))) (bitXor (c / 2 ^ 45) (d / 2 ^ 20))
+pulled a b c d =
+    bitXor (bitXor (bitXor (bitXor (up 17 a) (b / 2 ^ 47)) (up 44 c)) (bitXor (bitXor (up 55 a) (b / 2 ^ 9)) (up 19 b)))
+    (bitXor (c / 2 ^ 45) (d / 2 ^ 20))
 
 -- what is pending after the words t, s, r, q and p
 unfoldable pub pastOf : ℕ → ℕ → ℕ → ℕ → ℕ → ℕ

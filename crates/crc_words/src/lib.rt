@@ -236,7 +236,8 @@ fn pull(a: u64, b: u64, c: u64, d: u64) -> u64
 // A word at i, with x besides.
 fn turn(h: Past, x: u64, s: &[u8], i: usize) -> Past
     requires { ⌜ i + 48 ≤ length (now s) ⌝ }
-    ensures { λ r. ⌜ ((t : ℕ) → left (now (s .entry)) i (bitXor (past h) (over x t)) ≡ left (now (s .entry)) (i + 8) (bitXor (past r) t)) ⌝ }
+    ensures { λ r. ⌜ ((t : ℕ) → left (now (s .entry)) i (bitXor (past h) (over x t))
+        ≡ left (now (s .entry)) (i + 8) (bitXor (past r) t)) ⌝ }
 {
     let y = (load(s, i) ^ x) ^ pull(h.q, h.r, h.s, h.t);
     Past {
@@ -273,7 +274,9 @@ fn settle(h: Past) -> Pend
 // The words from `at` on, five a turn.
 fn fives(from: Pend, s: &[u8], at: usize) -> At
     requires { ⌜ (at + 80 ≤ length (now s)) × ((length (now s) - at) % 8 ≡ 0) ⌝ }
-    ensures { λ r. ⌜ (r .i + 40 ≤ length (now (s .entry))) × ((length (now (s .entry)) - r .i) % 8 ≡ 0) × (left (now (s .entry)) at (held from) ≡ left (now (s .entry)) (r .i) (held (r .z))) ⌝ }
+    ensures { λ r. ⌜ (r .i + 40 ≤ length (now (s .entry)))
+        × ((length (now (s .entry)) - r .i) % 8 ≡ 0)
+        × (left (now (s .entry)) at (held from) ≡ left (now (s .entry)) (r .i) (held (r .z))) ⌝ }
 {
     let nothing = Pend {
         a: 0,
@@ -296,7 +299,9 @@ const MANY: usize = 120;
 
 fn many(from: Pend, s: &[u8], at: usize) -> At
     requires { ⌜ (at + 40 ≤ length (now s)) × ((length (now s) - at) % 8 ≡ 0) ⌝ }
-    ensures { λ r. ⌜ (r .i + 40 ≤ length (now (s .entry))) × ((length (now (s .entry)) - r .i) % 8 ≡ 0) × (left (now (s .entry)) at (held from) ≡ left (now (s .entry)) (r .i) (held (r .z))) ⌝ }
+    ensures { λ r. ⌜ (r .i + 40 ≤ length (now (s .entry)))
+        × ((length (now (s .entry)) - r .i) % 8 ≡ 0)
+        × (left (now (s .entry)) at (held from) ≡ left (now (s .entry)) (r .i) (held (r .z))) ⌝ }
 {
     if s.len() - at < MANY {
         return At { z: from, i: at };

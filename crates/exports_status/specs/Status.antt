@@ -5,23 +5,23 @@ use Prim.Native.Nat.{ℕ, _+_, _*_, _%_, _^_}
 use lib.Dec.{eqb}
 use lib.ListN.{length}
 use Rattle.refusal.specs.Refusals.{wrongShape}
-use Rattle.refusal.specs.Outcomes.{Outcome, granted, refusedWith}
+use Rattle.refusal.specs.Outcomes.{Values, granted, refused}
 
 -- 0 where granted, else the refusal's number plus 256 times its index
-abbrev pub statusOf : Outcome → ℕ
+abbrev pub statusOf : Values → ℕ
 statusOf (granted values) = 0
-statusOf (refusedWith number index) = (number + 256 * index) % 2 ^ 64
+statusOf (refused number index) = (number + 256 * index) % 2 ^ 64
 
 -- the lent slice afterwards: the values where granted, as it was on a refusal
-abbrev pub valuesIn : Outcome → List ℕ → List ℕ
+abbrev pub valuesIn : Values → List ℕ → List ℕ
 valuesIn (granted values) lent = values
-valuesIn (refusedWith number index) lent = lent
+valuesIn (refused number index) lent = lent
 
 pub record Exported : Type 0 where
   pub status : ℕ
   pub lent : List ℕ
 
 -- the answer of a call that is lent a slice for n values: another length is refused first
-unfoldable pub exported : ℕ → Outcome → List ℕ → Exported
+unfoldable pub exported : ℕ → Values → List ℕ → Exported
 exported n o lent =
     cond (eqb (length lent) n) (record { status = statusOf o; lent = valuesIn o lent }) (record { status = wrongShape; lent = lent })

@@ -7,8 +7,9 @@ use lib.Dec.{ltb}
 use lib.Ieee as Ieee
 use lib.Ieee.{Float}
 use borrow.Author.Tests.{lt-ltb, le-ltb}
+use Rattle.address.specs.Address.{mostSlots}
 use Rattle.fragmentation.specs.Cutoff.{float, quotient, isRatio, cutoff}
-use Rattle.fragmentation.specs.Answer.{mostSlots, cutoffOf}
+use Rattle.fragmentation.specs.Answer.{cutoffOf}
 use Rattle.fragmentation.specs.declared.Cutoff.the-variants.{From, Nothing}
 
 -- ---- cutoff

@@ -4,13 +4,10 @@ use Prim.Native.Nat.{ℕ}
 use lib.Dec.{ltb}
 use lib.Ieee.{Float}
 use Rattle.refusal.specs.Refusals.{refusal, wrongShape, ratioOutOfRange}
+use Rattle.address.specs.Address.{mostSlots}
 use Rattle.fragmentation.specs.Cutoff.{isRatio, cutoff}
 use Rattle.fragmentation.specs.declared.Cutoff.{Cutoff}
 use Rattle.fragmentation.specs.declared.Cutoff.the-variants.{From, Nothing, Refused}
-
--- the largest slot capacity, and so the largest tip
-abbrev pub mostSlots : ℕ
-mostSlots = 65536
 
 -- 1 where these are no counts of a slab, 14 where r is no fill ratio; else the first slot to look at, where there is one below the tip
 unfoldable pub cutoffOf : ℕ → ℕ → Float → Cutoff

@@ -12,7 +12,7 @@ use borrow.Author.Tests.{le-leb, le-ltb, ltb-false}
 use Rattle.refusal.specs.Refusals.{refusal, wrongShape, checkDiffers, tooLong}
 use Rattle.little_endian.specs.LittleEndian.{word, bytesOf, getAt, putAt}
 use Rattle.little_endian.proofs.Laws.{Bytes, append-bytes, zero-bytes, bytesOf-bytes, bytesOf-zero, length-bytesOf, word-bytesOf, putAt-next}
-use Rattle.list_parts.proofs.Parts.{length-part, drop-part}
+use Rattle.list_parts.proofs.Ranges.{length-range, drop-range}
 use Rattle.sizes.specs.Sizes.{isSlabSize, fieldWidth, checkWidth, longestObject}
 use Rattle.sizes.proofs.Laws.{fieldWidth-le, isSlabSize-most, longestObject-frame, longestObject-lt}
 use Rattle.seal.specs.Seal.{checkOf, signed, isSigned, resigned}
@@ -58,13 +58,13 @@ laid slot object k h =
     let end : ℕ = s - checkWidth in
     let m₁ = take (longestObject s - n) (drop n slot) in
     let m₂ = take (end - longestObject s) (drop (longestObject s) slot) in
-    let l₁ : length m₁ ≡ longestObject s - n = length-part slot n (longestObject s) h (omega arith) in
-    let l₂ : length m₂ ≡ end - longestObject s = length-part slot (longestObject s) end (omega arith) (omega arith) in
+    let l₁ : length m₁ ≡ longestObject s - n = length-range slot n (longestObject s) h (omega arith) in
+    let l₂ : length m₂ ≡ end - longestObject s = length-range slot (longestObject s) end (omega arith) (omega arith) in
     let l₃ : length (drop end slot) ≡ checkWidth = length-drop end slot ∙ omega arith in
     let w : end - longestObject s ≡ fieldWidth s = omega arith in
     let z = bytesOf (longestObject s - n) 0 in
     let split : drop n slot ≡ m₁ ++ (m₂ ++ drop end slot) =
-    drop-part slot n (longestObject s) h ∙ ap (λ (x : List ℕ). m₁ ++ x) (drop-part slot (longestObject s) end (omega arith)) in
+    drop-range slot n (longestObject s) h ∙ ap (λ (x : List ℕ). m₁ ++ x) (drop-range slot (longestObject s) end (omega arith)) in
     let l : length (object ++ z) ≡ longestObject s = length-append object z ∙ omega (arith, length-bytesOf (longestObject s - n) 0) in
     let cleared : putAt n (longestObject s) 0 (object ++ drop n slot) ≡ (object ++ z) ++ (m₂ ++ drop end slot) =
     ap (λ (x : List ℕ). putAt n (longestObject s) 0 (object ++ x)) split

@@ -5,11 +5,11 @@ use Prim.Native.Nat.{ℕ, _-_}
 use lib.Dec.{ltb}
 use lib.ListN.{length, take, drop, replicate}
 use Rattle.refusal.specs.Refusals.{refusal, wrongShape, checkDiffers, tooLong}
+use Rattle.refusal.specs.declared.Finished.{Finished}
+use Rattle.refusal.specs.declared.Finished.the-variants as F
 use Rattle.little_endian.specs.LittleEndian.{word, bytesOf}
 use Rattle.sizes.specs.Sizes.{isSlabSize, fieldWidth, longestObject}
 use Rattle.seal.specs.Seal.{signed, isSigned}
-use Rattle.frame.specs.declared.Written.{Written}
-use Rattle.frame.specs.declared.Written.the-variants as W
 use Rattle.frame.specs.declared.Verdict.{Verdict}
 use Rattle.frame.specs.declared.Verdict.the-variants as R
 
@@ -23,15 +23,15 @@ unfoldable pub framed : ℕ → List ℕ → List ℕ
 framed s object = signed (body s object)
 
 pub record Writing : Type 0 where
-  pub answer : Written
+  pub answer : Finished
   pub slot : List ℕ
 
 -- the answer, and the slot after it: a refusal leaves the slot as it was
 unfoldable pub writing : List ℕ → List ℕ → Writing
 writing slot object =
-    cond (not (isSlabSize (length slot))) (record { answer = W.Refused (refusal wrongShape 0); slot = slot })
-    (cond (ltb (longestObject (length slot)) (length object)) (record { answer = W.Refused (refusal tooLong 0); slot = slot })
-    (record { answer = W.Done; slot = framed (length slot) object }))
+    cond (not (isSlabSize (length slot))) (record { answer = F.Refused (refusal wrongShape 0); slot = slot })
+    (cond (ltb (longestObject (length slot)) (length object)) (record { answer = F.Refused (refusal tooLong 0); slot = slot })
+    (record { answer = F.Done; slot = framed (length slot) object }))
 
 -- ---- reading
 -- the number in the length field

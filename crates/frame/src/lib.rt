@@ -1,8 +1,8 @@
 // An object in its slot: the object, zeros, its length, and the check of all before it (document 01, "Sizes and frames").
 //
 //     match Slab::write(slot, object) {
-//         Written::Done => ..,
-//         Written::Refused(refusal) => ..,  // 1, no slot has this length; 5, the object is too long; the slot is as it was
+//         Finished::Done => ..,
+//         Finished::Refused(refusal) => ..,  // 1, no slot has this length; 5, the object is too long; the slot is as it was
 //     }
 //     match Slab::verdict(slot) {
 //         Verdict::Object(n) => .. &slot[..n] ..,
@@ -17,14 +17,10 @@ ghost use Prim.Native.Nat.{_≤_};
 ghost use lib.ListN.{length};
 ghost use Rattle.sizes.specs.Sizes.{isSlabSize, longestObject};
 ghost use Rattle.frame.specs.Frame.{Writing, writing, framed, verdictOf, objectPart};
+use refusal::Finished;
 use refusal::Refusal;
 
 pub struct Slab {}
-
-pub enum Written {
-    Done,
-    Refused(Refusal),
-}
 
 pub enum Verdict {
     Object(usize),
@@ -53,17 +49,18 @@ fn lay(slot: &mut [u8], object: &[u8])
 
 impl Slab {
     // Writes the object into the slot.
-    pub fn write(slot: &mut [u8], object: &[u8]) -> Written
-        ensures { λ r. ⌜ _≡_ {A = Writing} (record { answer = r; slot = now (slot .exit) }) (writing (now (slot .entry)) (now (object .entry))) ⌝ }
+    pub fn write(slot: &mut [u8], object: &[u8]) -> Finished
+        ensures { λ r. ⌜ _≡_ {A = Writing} (record { answer = r; slot = now (slot .exit) })
+            (writing (now (slot .entry)) (now (object .entry))) ⌝ }
     {
         if !sizes::is_slab_size(slot.len() as u64) {
-            return Written::Refused(Refusal::of(Refusal::WRONG_SHAPE));
+            return Finished::Refused(Refusal::of(Refusal::WRONG_SHAPE));
         }
         if longest_in(slot) < object.len() {
-            return Written::Refused(Refusal::of(Refusal::TOO_LONG));
+            return Finished::Refused(Refusal::of(Refusal::TOO_LONG));
         }
         lay(slot, object);
-        Written::Done
+        Finished::Done
     }
 
     // Whether the slot holds an object, and of which length.

@@ -118,7 +118,8 @@ pub fn settle(marks: &mut [u8])
 
 // Each pending number becomes free; how many there were. The hint is 0 from then on.
 pub fn release(marks: &mut [u8], hint: usize) -> usize
-    ensures { λ r. ⌜ (r ≡ countIf isPending (hinted hint (now (marks .entry)))) × (now (marks .exit) ≡ map letGo (hinted hint (now (marks .entry)))) ⌝ }
+    ensures { λ r. ⌜ (r ≡ countIf isPending (hinted hint (now (marks .entry))))
+        × (now (marks .exit) ≡ map letGo (hinted hint (now (marks .entry)))) ⌝ }
 {
     let begin: usize = 0;
     let end = smaller(hint, marks.len());

@@ -1,1 +1,1 @@
-// What a part of a slice holds: laws alone (proofs/Parts.antt), for the proofs of the crates above.
+// What a part of a list holds: definitions (specs/) and laws alone, for the contracts and the proofs of the crates above.

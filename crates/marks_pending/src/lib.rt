@@ -58,7 +58,8 @@ fn has_other(marks: &[u8], mark: u8) -> bool
 
 // Whether a release may change any of these marks. Where a 0 stays, only a pending one is changed; where it does not, a held one never is.
 fn stirs(marks: &[u8], zero: u8) -> bool
-    ensures { λ r. ⌜ (r ≡ false → (countIf isPending (now (marks .entry)) ≡ 0) × (now (marks .entry) ≡ map (released zero) (now (marks .entry)))) ⌝ }
+    ensures { λ r. ⌜ (r ≡ false → (countIf isPending (now (marks .entry)) ≡ 0)
+        × (now (marks .entry) ≡ map (released zero) (now (marks .entry)))) ⌝ }
 {
     if zero == FREE {
         return has(marks, PENDING);

@@ -113,7 +113,8 @@ fn greatest(marks: &[u8]) -> u8
 // From `end` down, past the whole blocks of `width` in which all are free.
 fn skip_down(marks: &[u8], end: usize, width: usize) -> usize
     requires { ⌜ (end ≤ length (now marks)) × (0 < width) ⌝ }
-    ensures { λ r. ⌜ (r ≤ length (now (marks .entry))) × (lastTaken (take end (now (marks .entry))) ≡ lastTaken (take r (now (marks .entry)))) ⌝ }
+    ensures { λ r. ⌜ (r ≤ length (now (marks .entry)))
+        × (lastTaken (take end (now (marks .entry))) ≡ lastTaken (take r (now (marks .entry)))) ⌝ }
 {
     let mut i = end;
     while i >= width {

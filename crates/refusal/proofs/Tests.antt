@@ -1,6 +1,6 @@
 -- What tests tell, alone and joined: a rule of document 01 is a chain of tests, of which the first that holds decides. Assumes nothing.
 use mathlib.Core.Bool.{Bool, true, false, _&&_, _||_}
-use mathlib.Core.Path.{_≡_, refl, sym}
+use mathlib.Core.Path.{_≡_, refl, sym, _∙_}
 use mathlib.Core.Logic.{_⊎_, inl, inr}
 use Prim.Native.Nat.{ℕ, _≤_}
 use native.Mathlib.Omega.{arith}
@@ -11,7 +11,13 @@ use borrow.Author.Tests.{leb-true, le-leb}
 pub clash : {A : Type 0} → _≡_ {A = Bool} true false → A
 clash e = let z : _≡_ {A = ℕ} 0 1 = cc in absurd (omega arith)
 
+pub contradiction : {A : Type 0} {b : Bool} → b ≡ true → b ≡ false → A
+contradiction p q = clash (sym p ∙ q)
+
 -- ---- joined tests
+pub all : {a b : Bool} → a ≡ true → b ≡ true → (a && b) ≡ true
+all {a} {b} p q = rw (p, q)
+
 pub and-true : (a b : Bool) → (a && b) ≡ true → (a ≡ true) × (b ≡ true)
 and-true true b e = (refl, e)
 and-true false b e = clash (sym e)

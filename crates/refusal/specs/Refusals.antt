@@ -72,3 +72,39 @@ repeatedLocation = 16
 -- a cut is reported where the test says keep
 abbrev pub nothingToCut : ℕ
 nothingToCut = 17
+
+-- bytes between object and frame are not zero
+abbrev pub gapNotZero : ℕ
+gapNotZero = 18
+
+-- a snapshot block's number, count, padding, key or row order is wrong
+abbrev pub wrongBlock : ℕ
+wrongBlock = 19
+
+-- chunks run past the told length, or end before it
+abbrev pub wrongEnd : ℕ
+wrongEnd = 20
+
+-- a key over 64 bytes
+abbrev pub keyTooLong : ℕ
+keyTooLong = 21
+
+-- the ratio or the capacities differ
+abbrev pub settingsDiffer : ℕ
+settingsDiffer = 22
+
+-- a row of a plan is bad
+abbrev pub badMove : ℕ
+badMove = 23
+
+-- no face covers the code point
+abbrev pub noFace : ℕ
+noFace = 24
+
+-- a range ends before it starts, two of a face overlap, or a face id comes twice
+abbrev pub badFace : ℕ
+badFace = 25
+
+-- a total would pass 64 bits, a location names no slab, or a length is of another class
+abbrev pub totalsRefused : ℕ
+totalsRefused = 26

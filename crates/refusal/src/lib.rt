@@ -3,13 +3,25 @@
 //     return Class::Refused(Refusal::of(Refusal::TOO_LARGE));
 //
 // The index counts from 0: the update's where the refusal is given per update, the row's where per row, the slab's where a
-// batch finds no free slot, and 0 elsewhere. Numbers 18 to 26 belong to later requests.
+// batch finds no free slot, and 0 elsewhere. Numbers 18 to 26 are those of later requests: no call gives them yet.
 ghost use mathlib.Core.Path.{_≡_};
 ghost use Rattle.refusal.specs.Refusals.{refusal};
 
 pub struct Refusal {
     pub number: u8,
     pub index: usize,
+}
+
+// What a call answers that grants nothing but that it was done.
+pub enum Finished {
+    Done,
+    Refused(Refusal),
+}
+
+// What a test says that only reads: nothing is refused so far, or this is.
+pub enum Judged {
+    Passed,
+    Refused(Refusal),
 }
 
 impl Refusal {
@@ -47,6 +59,24 @@ impl Refusal {
     pub const REPEATED_LOCATION: u8 = 16;
     // A cut is reported where the test says keep.
     pub const NOTHING_TO_CUT: u8 = 17;
+    // Bytes between object and frame are not zero.
+    pub const GAP_NOT_ZERO: u8 = 18;
+    // A snapshot block's number, count, padding, key or row order is wrong.
+    pub const WRONG_BLOCK: u8 = 19;
+    // Chunks run past the told length, or end before it.
+    pub const WRONG_END: u8 = 20;
+    // A key over 64 bytes.
+    pub const KEY_TOO_LONG: u8 = 21;
+    // The ratio or the capacities differ.
+    pub const SETTINGS_DIFFER: u8 = 22;
+    // A row of a plan is bad.
+    pub const BAD_MOVE: u8 = 23;
+    // No face covers the code point.
+    pub const NO_FACE: u8 = 24;
+    // A range ends before it starts, two of a face overlap, or a face id comes twice.
+    pub const BAD_FACE: u8 = 25;
+    // A total would pass 64 bits, a location names no slab, or a length is of another class.
+    pub const TOTALS_REFUSED: u8 = 26;
 
     // A refusal that speaks of no row.
     pub fn of(number: u8) -> Refusal

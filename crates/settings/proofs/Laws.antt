@@ -2,13 +2,13 @@
 use mathlib.Core.Bool.{true, false}
 use mathlib.Core.Path.{_≡_, refl, ap, _∙_}
 use mathlib.Core.List.{List, [], _++_, append-assoc}
-use Prim.Native.Nat.{ℕ, _+_, _-_, _^_, _<_}
+use Prim.Native.Nat.{ℕ, _+_, _^_, _<_}
 use native.Mathlib.Omega.{arith}
 use lib.Dec.{ltb, lit<}
 use lib.ListN.{length, take, drop, replicate, length-append, length-drop}
 use lib.Seq.{take-at}
 use borrow.Author.Tests.{le-ltb}
-use Rattle.list_parts.proofs.Parts.{length-part, drop-part}
+use Rattle.list_parts.proofs.Ranges.{length-range, drop-range}
 use Rattle.little_endian.specs.LittleEndian.{bytesOf, getAt, putAt}
 use Rattle.little_endian.proofs.Laws.{append-bytes, zero-bytes, bytesOf-bytes, bytesOf-zero, length-bytesOf, word-bytesOf, putAt-next, getAt-middle}
 use Rattle.sizes.specs.Sizes.{checkWidth}
@@ -26,13 +26,13 @@ stored cookie fanout n =
     let m₂ = take 8 (drop 2 cookie) in
     let m₃ = take 50 (drop 10 cookie) in
     let old = drop 60 cookie in
-    let l₁ : length m₁ ≡ 2 = length-part cookie 0 2 (omega arith) (omega arith) in
-    let l₂ : length m₂ ≡ 8 = length-part cookie 2 10 (omega arith) (omega arith) in
-    let l₃ : length m₃ ≡ 50 = length-part cookie 10 60 (omega arith) (omega arith) in
+    let l₁ : length m₁ ≡ 2 = length-range cookie 0 2 (omega arith) (omega arith) in
+    let l₂ : length m₂ ≡ 8 = length-range cookie 2 10 (omega arith) (omega arith) in
+    let l₃ : length m₃ ≡ 50 = length-range cookie 10 60 (omega arith) (omega arith) in
     let l₄ : length old ≡ 4 = length-drop 60 cookie ∙ omega arith in
     let split : cookie ≡ m₁ ++ (m₂ ++ (m₃ ++ old)) =
-    drop-part cookie 0 2 (omega arith)
-    ∙ ap (λ (x : List ℕ). m₁ ++ x) (drop-part cookie 2 10 (omega arith) ∙ ap (λ (x : List ℕ). m₂ ++ x) (drop-part cookie 10 60 (omega arith))) in
+    drop-range cookie 0 2 (omega arith)
+    ∙ ap (λ (x : List ℕ). m₁ ++ x) (drop-range cookie 2 10 (omega arith) ∙ ap (λ (x : List ℕ). m₂ ++ x) (drop-range cookie 10 60 (omega arith))) in
     let b₁ = bytesOf 2 1 in
     let b₂ = b₁ ++ bytesOf 8 fanout in
     let k₁ = length-bytesOf 2 1 in

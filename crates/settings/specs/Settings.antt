@@ -5,14 +5,14 @@ use Prim.Native.Nat.{ℕ}
 use lib.Dec.{ltb, eqb}
 use lib.ListN.{length, take, replicate}
 use Rattle.refusal.specs.Refusals.{refusal, wrongShape, checkDiffers, unknownVersion, fanoutDiffers}
+use Rattle.refusal.specs.declared.Finished.{Finished}
+use Rattle.refusal.specs.declared.Finished.the-variants as F
+use Rattle.refusal.specs.declared.Judged.{Judged}
+use Rattle.refusal.specs.declared.Judged.the-variants as J
 use Rattle.little_endian.specs.LittleEndian.{bytesOf, getAt}
 use Rattle.seal.specs.Seal.{signed, isSigned}
-use Rattle.settings.specs.declared.Stored.{Stored}
-use Rattle.settings.specs.declared.Stored.the-variants as S
 use Rattle.settings.specs.declared.PersistentSettings.{PersistentSettings}
 use Rattle.settings.specs.declared.PersistentSettings.the-variants as P
-use Rattle.settings.specs.declared.Verified.{Verified}
-use Rattle.settings.specs.declared.Verified.the-variants as C
 
 abbrev pub cookieLength : ℕ
 cookieLength = 64
@@ -23,13 +23,13 @@ unfoldable pub cookieOf : ℕ → List ℕ
 cookieOf fanout = signed (bytesOf 2 1 ++ (bytesOf 8 fanout ++ replicate 50 0))
 
 pub record Storing : Type 0 where
-  pub answer : Stored
+  pub answer : Finished
   pub cookie : List ℕ
 
 unfoldable pub storing : ℕ → List ℕ → Storing
 storing fanout cookie =
-    cond (eqb (length cookie) cookieLength) (record { answer = S.Done; cookie = cookieOf fanout })
-    (record { answer = S.Refused (refusal wrongShape 0); cookie = cookie })
+    cond (eqb (length cookie) cookieLength) (record { answer = F.Done; cookie = cookieOf fanout })
+    (record { answer = F.Refused (refusal wrongShape 0); cookie = cookie })
 
 -- ---- reading: bytes after 64 are ignored, and the padding is not looked at
 unfoldable pub settingsOf : List ℕ → PersistentSettings
@@ -40,6 +40,6 @@ settingsOf cookie =
     (P.V1 (getAt 2 10 cookie))))
 
 -- whether the settings found are those expected
-unfoldable pub agreement : ℕ → PersistentSettings → Verified
-agreement fanout (P.V1 found) = cond (eqb found fanout) C.Agrees (C.Refused (refusal fanoutDiffers 0))
-agreement fanout (P.Refused r) = C.Refused r
+unfoldable pub agreement : ℕ → PersistentSettings → Judged
+agreement fanout (P.V1 found) = cond (eqb found fanout) J.Passed (J.Refused (refusal fanoutDiffers 0))
+agreement fanout (P.Refused r) = J.Refused r

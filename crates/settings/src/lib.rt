@@ -2,11 +2,13 @@
 //
 //     PersistentSettings::serialize(leaf_fanout, &mut cookie);
 //     match PersistentSettings::verify(&cookie, leaf_fanout) {
-//         Verified::Agrees => ..,
-//         Verified::Refused(refusal) => ..,  // 1, too short; 4, the check differs; 6, another version; 7, another fanout
+//         Judged::Passed => ..,
+//         Judged::Refused(refusal) => ..,  // 1, too short; 4, the check differs; 6, another version; 7, another fanout
 //     }
 ghost use mathlib.Core.Path.{_≡_};
 ghost use Rattle.settings.specs.Settings.{Storing, storing, settingsOf, agreement};
+use refusal::Finished;
+use refusal::Judged;
 use refusal::Refusal;
 
 const COOKIE_LENGTH: usize = 64;
@@ -25,29 +27,20 @@ pub enum PersistentSettings {
     Refused(Refusal),
 }
 
-pub enum Stored {
-    Done,
-    Refused(Refusal),
-}
-
-pub enum Verified {
-    Agrees,
-    Refused(Refusal),
-}
-
 impl PersistentSettings {
     // Writes the cookie.
-    pub fn serialize(leaf_fanout: u64, cookie: &mut [u8]) -> Stored
-        ensures { λ r. ⌜ _≡_ {A = Storing} (record { answer = r; cookie = now (cookie .exit) }) (storing «leaf_fanout» (now (cookie .entry))) ⌝ }
+    pub fn serialize(leaf_fanout: u64, cookie: &mut [u8]) -> Finished
+        ensures { λ r. ⌜ _≡_ {A = Storing} (record { answer = r; cookie = now (cookie .exit) })
+            (storing «leaf_fanout» (now (cookie .entry))) ⌝ }
     {
         if cookie.len() != COOKIE_LENGTH {
-            return Stored::Refused(Refusal::of(Refusal::WRONG_SHAPE));
+            return Finished::Refused(Refusal::of(Refusal::WRONG_SHAPE));
         }
         little_endian::put_at(cookie, 0, FANOUT, VERSION);
         little_endian::put_at(cookie, FANOUT, PADDING, leaf_fanout);
         little_endian::put_at(cookie, PADDING, CHECK, 0);
         seal::write(cookie);
-        Stored::Done
+        Finished::Done
     }
 
     // Reads a cookie.
@@ -69,18 +62,18 @@ impl PersistentSettings {
     }
 
     // Whether the cookie was written with this fanout.
-    pub fn verify(cookie: &[u8], leaf_fanout: u64) -> Verified
+    pub fn verify(cookie: &[u8], leaf_fanout: u64) -> Judged
         ensures { λ r. ⌜ r ≡ agreement «leaf_fanout» (settingsOf (now (cookie .entry))) ⌝ }
     {
         match PersistentSettings::deserialize(cookie) {
             PersistentSettings::V1 { leaf_fanout: found } => {
                 if found == leaf_fanout {
-                    Verified::Agrees
+                    Judged::Passed
                 } else {
-                    Verified::Refused(Refusal::of(Refusal::FANOUT_DIFFERS))
+                    Judged::Refused(Refusal::of(Refusal::FANOUT_DIFFERS))
                 }
             }
-            PersistentSettings::Refused(refusal) => Verified::Refused(refusal),
+            PersistentSettings::Refused(refusal) => Judged::Refused(refusal),
         }
     }
 }

@@ -14,8 +14,10 @@ use native.Mathlib.Nat.{eq-or-lt-of-le, le-of-suc-le-suc, lt-trans, not-le-of-lt
 use lib.Count.{trailingZeros, under}
 use lib.Pow.{shr-shr}
 use Rattle.refusal.specs.Refusals.{refusal, tooLarge}
-use Rattle.refusal.proofs.Tests.{clash, and-true, or-true, by-test, both-ways}
-use Rattle.sizes.specs.Sizes.{slabSizes, sizeOf, isIn, isSlabSize, slabs, fieldWidth, checkWidth, longestObject, firstFit, slabFor, classOf}
+use Rattle.refusal.proofs.Tests.{clash, and-true, by-test, both-ways}
+use Rattle.list_parts.specs.Lists.{elem}
+use Rattle.list_parts.proofs.Lists.{elem-cases}
+use Rattle.sizes.specs.Sizes.{slabSizes, sizeOf, isSlabSize, slabs, fieldWidth, checkWidth, longestObject, firstFit, slabFor, classOf}
 use Rattle.sizes.specs.OddPart.{goes}
 use Rattle.sizes.specs.declared.Class.the-variants.{Slab, Refused}
 
@@ -131,11 +133,11 @@ abbrev pub allIn : (ℕ → Bool) → List ℕ → Bool
 allIn p [] = true
 allIn p (t ∷ ts) = p t && allIn p ts
 
-pub allIn-at : (p : ℕ → Bool) (l : List ℕ) (s : ℕ) → allIn p l ≡ true → isIn s l ≡ true → p s ≡ true
+pub allIn-at : (p : ℕ → Bool) (l : List ℕ) (s : ℕ) → allIn p l ≡ true → elem s l ≡ true → p s ≡ true
 allIn-at p [] s e h = clash (sym h)
 allIn-at p (t ∷ ts) s e h =
     let b = and-true (p t) (allIn p ts) e in
-    ⊎-elim (λ (q : eqb s t ≡ true). rw (eqb-true s t q) (b .0)) (λ (q : isIn s ts ≡ true). allIn-at p ts s (b .1) q) (or-true (eqb s t) (isIn s ts) h)
+    ⊎-elim (λ (q : s ≡ t). rw q (b .0)) (λ (q : elem s ts ≡ true). allIn-at p ts s (b .1) q) (elem-cases s t ts h)
 
 -- ---- sizeOf
 pub sizeOf-past : (slab : ℕ) → 78 ≤ slab → sizeOf slab ≡ 0

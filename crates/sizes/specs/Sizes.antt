@@ -1,10 +1,11 @@
 -- Document 01, "Sizes and frames": the slab sizes, what a frame takes of a slot, and the class of an object. Assumes nothing.
-use mathlib.Core.Bool.{Bool, false, cond, _||_}
+use mathlib.Core.Bool.{Bool, cond}
 use mathlib.Core.List.{List, [], _∷_}
 use Prim.Native.Nat.{ℕ, suc, _+_, _-_}
-use lib.Dec.{leb, ltb, eqb}
+use lib.Dec.{leb, ltb}
 use lib.ListN.{getD}
 use Rattle.refusal.specs.Refusals.{refusal, tooLarge}
+use Rattle.list_parts.specs.Lists.{elem}
 use Rattle.sizes.specs.declared.Class.{Class}
 use Rattle.sizes.specs.declared.Class.the-variants.{Slab, Refused}
 
@@ -29,13 +30,9 @@ slabSizes =
 unfoldable pub sizeOf : ℕ → ℕ
 sizeOf slab = getD slabSizes slab 0
 
-abbrev pub isIn : ℕ → List ℕ → Bool
-isIn s [] = false
-isIn s (t ∷ ts) = eqb s t || isIn s ts
-
 -- whether a slot can have this length
 unfoldable pub isSlabSize : ℕ → Bool
-isSlabSize s = isIn s slabSizes
+isSlabSize s = elem s slabSizes
 
 -- the bytes of the length field in a slot of size s: by the slab, not by the object
 unfoldable pub fieldWidth : ℕ → ℕ

@@ -2,10 +2,10 @@ use borrow.Author.Tests.{leb-true}
 use mathlib.Core.Path.{ap, _∙_}
 use mathlib.Core.List.{List, _++_}
 use mathlib.Core.Logic.{⊎-elim}
-use Prim.Native.Nat.{ℕ, _-_}
+use Prim.Native.Nat.{ℕ}
 use lib.ListN.{take, drop}
 use borrow.Author.Tests.{le-leb, lt-leb}
-use Rattle.list_parts.proofs.Parts.{length-part, put-part}
+use Rattle.list_parts.proofs.Ranges.{length-range, put-range}
 use Rattle.little_endian.specs.LittleEndian.{bytesOf, putAt}
 use borrow.Author.Needs.{needs}
 use Rattle.little_endian.proofs.put_at.Statement.{statement}
@@ -32,8 +32,8 @@ returns c =
     let number = c .before .before .before .before .before .before .before .args .number in
     let h = c .before .before .before .before .before .if1 .taken in
     let e = c .before .before .before .before .if2 .taken in
-    put-part l start end h (c .before .before .put .last .0)
-    ∙ ap (λ (ys : List ℕ). take start l ++ (ys ++ drop end l)) (c .before .before .put .ensures ∙ ap (λ (k : ℕ). bytesOf k number) (length-part l start end h (leb-true _ _ e)))
+    put-range l start end h (c .before .before .put .last .0)
+    ∙ ap (λ (ys : List ℕ). take start l ++ (ys ++ drop end l)) (c .before .before .put .ensures ∙ ap (λ (k : ℕ). bytesOf k number) (length-range l start end h (leb-true _ _ e)))
     ∙ simp (le-leb _ _ h, e)
 
 returns-2 : tie.Need-returns-2

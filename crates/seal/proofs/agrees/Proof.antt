@@ -6,7 +6,7 @@ use lib.ListN.{length, take, drop, length-drop}
 use lib.Seq.{length-take-le, take-all}
 use Rattle.little_endian.specs.LittleEndian.{word}
 use Rattle.seal.specs.Seal.{isSigned, checkOf, bodyOf, tailOf}
-use Rattle.list_parts.proofs.Parts.{rest-part}
+use Rattle.list_parts.proofs.Ranges.{rest-part}
 use borrow.Author.Needs.{needs}
 use Rattle.seal.proofs.agrees.Statement.{statement}
 use Rattle.seal.proofs.agrees.Tie as tie

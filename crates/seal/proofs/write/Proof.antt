@@ -5,7 +5,7 @@ use Prim.Native.Nat.{ℕ, _-_}
 use lib.ListN.{length, take, drop}
 use lib.Seq.{length-take-le}
 use Rattle.seal.specs.Seal.{resigned, checkOf, bodyOf}
-use Rattle.list_parts.proofs.Parts.{rest-part, put-rest}
+use Rattle.list_parts.proofs.Ranges.{rest-part, put-rest}
 use borrow.Author.Needs.{needs}
 use Rattle.seal.proofs.write.Statement.{statement}
 use Rattle.seal.proofs.write.Tie as tie
