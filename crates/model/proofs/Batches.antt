@@ -8,11 +8,12 @@ use native.Mathlib.Nat.{suc-ne-zero}
 use native.Mathlib.Omega.{arith}
 use lib.ListN.{length, set, length-set}
 use Rattle.sizes.specs.Sizes.{slabFor}
-use Rattle.address.specs.Address.{slabs, isLocation, unit}
+use Rattle.address.specs.Address.{isLocation, unit, slabs}
 use Rattle.model.specs.Batches.{updatesOf, idOf, updateOf, place, spotFor}
 use Rattle.model.specs.Store.{Update, put, free}
 use Rattle.model.specs.Tables.{write, bumpEach, bump, useEach}
-use Rattle.model.proofs.Tables.{Spot, spot-is, length-bump}
+use Rattle.model.proofs.Spots.{Spot, spot-is}
+use Rattle.model.proofs.Writes.{length-bump}
 
 -- ---- updatesOf
 

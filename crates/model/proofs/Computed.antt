@@ -10,9 +10,11 @@ use Rattle.model.specs.Tables.{badIds}
 use Rattle.model.specs.Ids.{bumpPending}
 use Rattle.model.specs.Batches.{room}
 use Rattle.model.specs.Defrag.{movesFrom}
-use Rattle.model.specs.Step.{refusal, grant, effect, answer, next}
+use Rattle.model.specs.Lending.{lentFit}
+use Rattle.model.specs.Questions.{askRefusal, reply}
+use Rattle.model.specs.Step.{refusalOf, refusal, grant, effect, answer, next}
 use Rattle.model.specs.Cases.{allHold, cases}
 
 pub cases-hold : allHold cases ≡ true
-unfolding cases _⨾_ test answer next refusal grant effect badIds badSlots slabFor firstFit slabSizes fieldWidth sizeOf isRatio cutoff div le lt eq ofInt toUnsigned round units odd size span climb room bumpPending movesFrom
+unfolding cases _⨾_ test answer next refusal refusalOf askRefusal reply lentFit grant effect badIds badSlots slabFor firstFit slabSizes fieldWidth sizeOf isRatio cutoff div le lt eq ofInt toUnsigned round units odd size span climb room bumpPending movesFrom
 cases-hold = refl

@@ -1,99 +1,94 @@
 -- What a granted call knows: its tables fit, and the tests on the way were not met. Assumes nothing.
-use mathlib.Core.Path.{_≡_}
-use mathlib.Core.Bool.{Bool, true, not, false}
-use mathlib.Core.List.{List, []}
+use mathlib.Core.Path.{_≡_, sym, ap, _∙_}
+use mathlib.Core.Bool.{Bool, true, false, not, _&&_}
+use mathlib.Core.List.{[]}
 use Prim.Native.Nat.{ℕ, _≤_, _<_}
 use native.Mathlib.Omega.{arith}
-use lib.Dec.{ltb}
 use lib.ListN.{length}
-use borrow.Author.Tests.{not-false, not-true, ltb-false, eqb-true, leb-false}
-use Rattle.refusal.proofs.Tests.{and-true, or-false}
-use Rattle.address.specs.Address.{badSlots, slabs}
-use Rattle.address.proofs.Laws.{slots-range}
-use Rattle.model.specs.Batches.{updates, updatesOf, room}
-use Rattle.model.specs.Cases.{stores}
+use borrow.Author.Tests.{not-false, ltb-false, eqb-true, leb-false}
+use Rattle.refusal.specs.Refusals.{wrongShape}
+use Rattle.refusal.proofs.Tests.{and-true}
+use Rattle.address.specs.Address.{slabs}
+use Rattle.model.specs.Batches.{updates, updatesIn, room}
 use Rattle.model.specs.Ids.{nextId}
-use Rattle.model.specs.Step.{shape, refusal, asLong}
-use Rattle.model.specs.Store.{Store, newId, offer}
-use Rattle.model.specs.Tables.{capacities, badIds, shut, isOpen, idMarksFit, locationsFit, slotMarksFit, ownersFit, batchFits, talliesFit, tablesFit}
-use Rattle.model.specs.Verdict.{ok}
+use Rattle.model.specs.Lending.{everyTable, lendingOf}
+use Rattle.model.specs.Lent.{fits}
+use Rattle.model.specs.Memory.{Memory, read}
+use Rattle.model.specs.Step.{refusalOf, refusal}
+use Rattle.model.specs.Store.{Store, Offer, Call, newId, offer}
+use Rattle.model.specs.Tables.{mostUpdates, isOpen}
+use Rattle.model.specs.Tests.{shape, lists, asLong}
+use Rattle.model.specs.Verdict.{ok, refuse, test, _⨾_}
+use Rattle.model.proofs.Sizes.{Sizes, sizes, fits-read, shape-read}
 use Rattle.model.proofs.Verdicts.{test-ok, first-ok, then-ok}
 
-pub shape-ok : (s : Store) (fit : Bool) → shape s fit ≡ ok → (capacities (s .ids) (s .slots) ≡ true) × (fit ≡ true)
-shape-ok s fit e = and-true _ fit (not-false _ (test-ok _ _ _ e))
+-- ---- every call
 
--- what capacities say
-pub capacities-range : (n m : ℕ) → capacities n m ≡ true → (2 ≤ n) × (1 ≤ m) × (m ≤ 65536)
-unfolding badIds
-capacities-range n m e =
-    let a = and-true (not (badIds n)) (not (badSlots m)) e in
-    let b = or-false (ltb n 2) (ltb 65536 n) (not-true _ (a .0)) in
-    let c = slots-range m (not-true _ (a .1)) in
-    (ltb-false n 2 (b .0), c .0, c .1)
+pub shape-ok : (s : Store) (c : Call) → shape s c ≡ ok → Sizes (lendingOf c) s
+shape-ok s c e = let a = and-true _ _ (not-false _ (test-ok _ _ _ e)) in sizes (lendingOf c) s (a .0) (a .1)
+
+pub granted-sizes : (s : Store) (c : Call) → refusal s c ≡ ok → Sizes (lendingOf c) s
+unfolding refusal
+granted-sizes s c e = shape-ok s c (first-ok _ _ e)
+
+pub granted-fits : (m : Memory) (c : Call) → refusal (read m) c ≡ ok → fits (lendingOf c) m ≡ true
+unfolding refusal
+granted-fits m c e = sym (fits-read (lendingOf c) m) ∙ not-false _ (test-ok _ _ _ (first-ok _ _ e))
+
+-- ---- refusal 1 by lengths, and what is left of the tests once it is passed
+
+pub refused-shape : (m : Memory) (c : Call) → fits (lendingOf c) m ≡ false → refusal (read m) c ≡ refuse wrongShape 0
+unfolding refusal test _⨾_
+refused-shape m c e = λ i. (shape-read c m ∙ ap (λ b. test (not b) wrongShape 0) e) i ⨾ refusalOf (read m) c
+
+pub fits-rest : (m : Memory) (c : Call) → fits (lendingOf c) m ≡ true → refusal (read m) c ≡ refusalOf (read m) c
+unfolding refusal test _⨾_
+fits-rest m c e = λ i. (shape-read c m ∙ ap (λ b. test (not b) wrongShape 0) e) i ⨾ refusalOf (read m) c
+
+pub granted-rest : (s : Store) (c : Call) → refusal s c ≡ ok → refusalOf s c ≡ ok
+unfolding refusal
+granted-rest s c e = then-ok (shape s c) _ e
+
+pub lists-ok : (fit : Bool) → lists fit ≡ ok → fit ≡ true
+lists-ok fit e = not-false _ (test-ok _ _ _ e)
 
 pub shut-is : (s : Store) → isOpen s ≡ false → s .batch .opened ≡ 0
 shut-is s e = let h = ltb-false 0 (s .batch .opened) e in omega arith
 
--- each of the six tables fits
-pub record Tabled (s : Store) : Type 0 where
-  pub id-marks : idMarksFit s ≡ true
-  pub locations : locationsFit s ≡ true
-  pub slot-marks : slotMarksFit s ≡ true
-  pub owners : ownersFit s ≡ true
-  pub batch : batchFits s ≡ true
-  pub tallies : talliesFit s ≡ true
-
-pub tabled : (s : Store) → tablesFit s ≡ true → Tabled s
-tabled s e =
-    let f = and-true _ (talliesFit s) e in
-    let b = and-true _ (batchFits s) (f .0) in
-    let o = and-true _ (ownersFit s) (b .0) in
-    let m = and-true _ (slotMarksFit s) (o .0) in
-    let l = and-true (idMarksFit s) (locationsFit s) (m .0) in
-    record { id-marks = l .0; locations = l .1; slot-marks = m .1; owners = o .1; batch = b .1; tallies = f .1 }
-
 -- ---- new id
 
 pub new-id-granted : (s : Store) → refusal s newId ≡ ok → nextId s < length (s .idMarks)
-unfolding refusal
-new-id-granted s e =
-    let a = shape-ok s _ (first-ok _ _ e) in
-    let b = and-true _ (talliesFit s) (a .1) in
-    let c = and-true (idMarksFit s) (batchFits s) (b .0) in
-    let l : length (s .idMarks) ≡ s .ids = eqb-true _ _ (c .0) in
-    rw l (leb-false _ _ (test-ok _ _ _ (then-ok _ _ (then-ok _ _ e))))
+unfolding refusalOf
+new-id-granted s e = rw (granted-sizes s newId e .id-marks) (leb-false _ _ (test-ok _ _ _ (then-ok _ _ (granted-rest s newId e))))
 
 -- ---- offer
 
-pub record Offered (s : Store) (is : List ℕ) (ss : List Bool) (ns out : List ℕ) : Type 0 where
-  pub caps : capacities (s .ids) (s .slots) ≡ true
-  pub tables : tablesFit s ≡ true
-  pub stores : length ss ≡ length is
-  pub lengths : length ns ≡ length is
-  pub answers : length out ≡ length is
+pub record Offered (s : Store) (o : Offer) : Type 0 where
+  pub tables : Sizes everyTable s
+  pub stores : length (o .stores) ≡ length (o .ids)
+  pub lengths : length (o .lengths) ≡ length (o .ids)
+  pub answers : length (o .placed) ≡ length (o .ids)
   pub shut : s .batch .opened ≡ 0
-  pub few : length is ≤ 256
-  pub fit : updates s [] 0 (updatesOf is ss ns) ≡ ok
-  pub enough : room (s .slots) (s .slotMarks) (updatesOf is ss ns) slabs 0 ≡ ok
+  pub few : length (o .ids) ≤ mostUpdates
+  pub fit : updates s [] 0 (updatesIn o) ≡ ok
+  pub enough : room (s .slots) (s .slotMarks) (updatesIn o) slabs 0 ≡ ok
 
-pub offer-granted : (s : Store) (is : List ℕ) (ss : List Bool) (ns out : List ℕ) → refusal s (offer is ss ns out) ≡ ok → Offered s is ss ns out
-unfolding refusal
-offer-granted s is ss ns out e =
-    let a = shape-ok s _ (first-ok _ _ e) in
-    let b = and-true (tablesFit s) _ (a .1) in
-    let c = and-true _ (asLong is out) (b .1) in
-    let d = and-true (asLong is ss) (asLong is ns) (c .0) in
-    let e₂ = then-ok _ _ e in
+pub offer-granted : (s : Store) (o : Offer) → refusal s (offer o) ≡ ok → Offered s o
+unfolding refusalOf
+offer-granted s o e =
+    let e₁ = granted-rest s (offer o) e in
+    let c = and-true _ (asLong (o .ids) (o .placed)) (lists-ok _ (first-ok _ _ e₁)) in
+    let d = and-true (asLong (o .ids) (o .stores)) (asLong (o .ids) (o .lengths)) (c .0) in
+    let e₂ = then-ok _ _ e₁ in
     let e₃ = then-ok _ _ e₂ in
     let e₄ = then-ok _ _ e₃ in
     record {
-      caps = a .0;
-      tables = b .0;
+      tables = granted-sizes s (offer o) e;
       stores = eqb-true _ _ (d .0);
       lengths = eqb-true _ _ (d .1);
       answers = eqb-true _ _ (c .1);
       shut = shut-is s (test-ok _ _ _ (first-ok _ _ e₂));
-      few = ltb-false 256 (length is) (test-ok _ _ _ (first-ok _ _ e₃));
+      few = ltb-false mostUpdates (length (o .ids)) (test-ok _ _ _ (first-ok _ _ e₃));
       fit = first-ok _ _ e₄;
       enough = then-ok _ _ e₄;
     }

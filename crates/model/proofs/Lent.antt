@@ -5,22 +5,27 @@ use mathlib.Core.Bool.{not, _&&_, _||_, Bool, cond, true, false}
 use mathlib.Core.List.{List, [], _∷_, _++_}
 use Prim.Native.Nat.{_-_, ℕ, suc, zero, _*_, _+_, max}
 use lib.Dec.{ltb, eqb}
-use lib.ListN.{getD}
+use lib.ListN.{length, getD}
 use lib.Ieee.{Float}
-use Rattle.refusal.specs.Refusals.{tablesDisagree, noSuchId, nothingToCut}
+use Rattle.refusal.specs.Refusals.{wrongShape, tablesDisagree, noSuchId, nothingToCut}
 use Rattle.sizes.specs.Sizes.{sizeOf}
 use Rattle.address.specs.Address.{isLocation, packing, slabs}
 use Rattle.fragmentation.specs.Cutoff.{cutoff}
 use Rattle.model.specs.Batches.{abandonRows}
 use Rattle.model.specs.Defrag.{movesIn, consIf, movable, movesFrom}
-use Rattle.model.specs.Lent.{lent, joined, chosen, Lending, lendingOf}
-use Rattle.model.specs.Memory.{Memory, read, batchOf, memoryOf}
+use Rattle.model.specs.Lending.{Lending, ifLent, lendingOf}
+use Rattle.model.specs.Lent.{lent, joined, chosen, lengthsFit, fits}
+use Rattle.model.specs.Memory.{Memory, read, batchOf, memoryOf, batchWords, tallyWords}
 use Rattle.model.specs.MemoryAfter.{memoryEffect, memoryAfter}
-use Rattle.model.specs.Step.{refusal, shape, oneOpen, slabRefusal, grant, answer, answerBy, unless}
-use Rattle.model.specs.Store.{abandon, Row, Store, moves, withIdMarks, Batch, withBatch, Call, newId, release, offer, commit, fresh, rebuild, lookup, counters, defrag, truncation, report}
-use Rattle.model.specs.Tables.{live, slabTip, badAt, slotMarksFit, batchFits, talliesFit, kept, idMarksFit, locationsFit, ownersFit, heldId, locationOf}
+use Rattle.model.specs.Questions.{askRefusal, reply}
+use Rattle.model.specs.Step.{refusalOf, refusal, slabRefusal, grant, answer, answerBy, unless}
+use Rattle.model.specs.Store.{Row, Store, withIdMarks, Batch, withBatch, Question, lookup, counters, defrag, moves, truncated}
+use Rattle.model.specs.Store.{Call, newId, release, offer, commit, abandon, fresh, rebuild, ask, truncation, report}
+use Rattle.model.specs.Tables.{capacities, live, slabTip, badAt, kept, heldId, locationOf}
+use Rattle.model.specs.Tests.{shape, oneOpen}
 use Rattle.model.specs.Truncation.{cutAt, cutOf, keeps}
 use Rattle.model.specs.Verdict.{test, _⨾_, ok, Verdict, refuse}
+use Rattle.model.proofs.Sizes.{shape-read}
 
 -- the range of a kept update is told by the capacities
 abandonRows-caps : (s t : Store) → s .ids ≡ t .ids → s .slots ≡ t .slots → (i : ℕ) (ks : List Row) → abandonRows s i ks ≡ abandonRows t i ks
@@ -50,61 +55,7 @@ cutAt-high : (s t : Store) → s .tallies ≡ t .tallies → (k d n : ℕ) → c
 cutAt-high s t e k d zero = refl
 cutAt-high s t e k d (suc top) = ap (λ g. cutOf (sizeOf k) top (max (getD (g .high) k 0) top) d) e
 
-pub lent-refusal : (m : Memory) (c : Call) → refusal (read (lent c m)) c ≡ refusal (read m) c
-unfolding lent refusal read
-lent-refusal m newId = refl
-lent-refusal m release = refl
-lent-refusal m (offer is ss ns out) = refl
-lent-refusal m commit = refl
-lent-refusal m abandon = λ i.
-    shape (read m) (slotMarksFit (read m) && batchFits (read m) && talliesFit (read m)) ⨾ oneOpen (read m) ⨾
-    abandonRows-caps (read (lent abandon m)) (read m) refl refl 0 (kept (read m)) i
-lent-refusal m fresh = refl
-lent-refusal m (rebuild is ls) = refl
-lent-refusal m (lookup i) = λ j.
-    shape (read m) (idMarksFit (read m) && locationsFit (read m) && slotMarksFit (read m) && ownersFit (read m) && talliesFit (read m)) ⨾
-    test (not (heldId (read m) i) || eqb (locationOf (read m) i) 0) noSuchId 0 ⨾
-    test (badAt-tables (read m) (batchOf []) i (locationOf (read m) i) j) tablesDisagree 0
-lent-refusal m counters = refl
-lent-refusal m (defrag r is ls) = refl
-lent-refusal m (truncation k t) = refl
-lent-refusal m (report k t) = λ j.
-    slabRefusal (read m) k t ⨾ test (keeps (cutAt-high (read (lent (report k t) m)) (read m) refl k t (slabTip (read m) k) j)) nothingToCut 0
-
-lent-grant : (m : Memory) (c : Call) → grant (read (lent c m)) c ≡ grant (read m) c
-unfolding lent grant read
-lent-grant m newId = refl
-lent-grant m release = refl
-lent-grant m (offer is ss ns out) = refl
-lent-grant m commit = refl
-lent-grant m abandon = refl
-lent-grant m fresh = refl
-lent-grant m (rebuild is ls) = refl
-lent-grant m (lookup i) = refl
-lent-grant m counters = refl
-lent-grant m (defrag r is ls) = ap moves (movesFrom-marks (read m) (read (lent (defrag r is ls) m) .idMarks) r slabs 0)
-lent-grant m (truncation k t) = cutAt-high (read (lent (truncation k t) m)) (read m) refl k t (slabTip (read m) k)
-lent-grant m (report k t) = refl
-
--- the answer
-pub lent-answer : (m : Memory) (c : Call) → answer (read (lent c m)) c ≡ answer (read m) c
-unfolding answer
-lent-answer m c = λ i. answerBy (lent-refusal m c i) (lent-grant m c i)
-
-joined-effect : (m : Memory) (c : Call) → memoryEffect m c ≡ joined c (memoryEffect (lent c m) c) m
-unfolding lent joined memoryEffect read
-joined-effect m newId = refl
-joined-effect m release = refl
-joined-effect m (offer is ss ns out) = refl
-joined-effect m commit = refl
-joined-effect m abandon = refl
-joined-effect m fresh = refl
-joined-effect m (rebuild is ls) = refl
-joined-effect m (lookup i) = refl
-joined-effect m counters = refl
-joined-effect m (defrag r is ls) = refl
-joined-effect m (truncation k t) = refl
-joined-effect m (report k t) = refl
+-- ---- what is lent is kept
 
 pick : (b : Bool) (x y : List ℕ) → x ≡ cond b (cond b x y) x
 pick true x y = refl
@@ -118,6 +69,87 @@ chosen-same l m b = λ i. memoryOf (m .ids) (m .slots) (pick (l .idMarks) (m .id
 joined-lent : (m : Memory) (c : Call) → m ≡ joined c (lent c m) m
 unfolding lent joined
 joined-lent m c = chosen-same (lendingOf c) m (memoryOf (m .ids) (m .slots) [] [] [] [] [] [])
+
+lent-fits : (m : Memory) (l : Lending) → fits l (chosen l m (memoryOf (m .ids) (m .slots) [] [] [] [] [] [])) ≡ fits l m
+unfolding lengthsFit
+lent-fits m l = λ i.
+    capacities (m .ids) (m .slots) &&
+    (asked (l .idMarks) (m .idMarks) (m .ids) i && asked (l .locations) (m .locations) (m .ids) i && asked (l .slotMarks) (m .slotMarks) (slabs * m .slots) i &&
+    asked (l .owners) (m .owners) (slabs * m .slots) i && asked (l .batch) (m .batch) batchWords i && asked (l .tallies) (m .tallies) tallyWords i)
+  where
+    asked : (b : Bool) (t : List ℕ) (n : ℕ) → ifLent b (eqb (length (cond b t [])) n) ≡ ifLent b (eqb (length t) n)
+    asked true t n = refl
+    asked false t n = refl
+
+-- ---- the answer
+
+-- refusal 1 looks at the lent tables alone
+lent-shape : (m : Memory) (c : Call) → shape (read (lent c m)) c ≡ shape (read m) c
+unfolding lent
+lent-shape m c = shape-read c (lent c m) ∙ ap (λ b. test (not b) wrongShape 0) (lent-fits m (lendingOf c)) ∙ sym (shape-read c m)
+
+lent-ask : (m : Memory) (q : Question) → askRefusal (read (lent (ask q) m)) q ≡ askRefusal (read m) q
+unfolding lent askRefusal read
+lent-ask m (lookup i) = λ j.
+    test (not (heldId (read m) i) || eqb (locationOf (read m) i) 0) noSuchId 0 ⨾
+    test (badAt-tables (read m) (batchOf []) i (locationOf (read m) i) j) tablesDisagree 0
+lent-ask m counters = refl
+lent-ask m (defrag r is ls) = refl
+
+lent-rest : (m : Memory) (c : Call) → refusalOf (read (lent c m)) c ≡ refusalOf (read m) c
+unfolding lent refusalOf read
+lent-rest m newId = refl
+lent-rest m release = refl
+lent-rest m (offer o) = refl
+lent-rest m commit = refl
+lent-rest m abandon = λ i. oneOpen (read m) ⨾ abandonRows-caps (read (lent abandon m)) (read m) refl refl 0 (kept (read m)) i
+lent-rest m fresh = refl
+lent-rest m (rebuild rs) = refl
+lent-rest m (ask q) = lent-ask m q
+lent-rest m (truncation k t) = refl
+lent-rest m (report k t) = λ j.
+    slabRefusal (read m) k t ⨾ test (keeps (cutAt-high (read (lent (report k t) m)) (read m) refl k t (slabTip (read m) k) j)) nothingToCut 0
+
+pub lent-refusal : (m : Memory) (c : Call) → refusal (read (lent c m)) c ≡ refusal (read m) c
+unfolding refusal
+lent-refusal m c = λ i. lent-shape m c i ⨾ lent-rest m c i
+
+lent-reply : (m : Memory) (q : Question) → reply (read (lent (ask q) m)) q ≡ reply (read m) q
+unfolding lent reply read
+lent-reply m (lookup i) = refl
+lent-reply m counters = refl
+lent-reply m (defrag r is ls) = ap moves (movesFrom-marks (read m) (read (lent (ask (defrag r is ls)) m) .idMarks) r slabs 0)
+
+lent-grant : (m : Memory) (c : Call) → grant (read (lent c m)) c ≡ grant (read m) c
+unfolding lent grant read
+lent-grant m newId = refl
+lent-grant m release = refl
+lent-grant m (offer o) = refl
+lent-grant m commit = refl
+lent-grant m abandon = refl
+lent-grant m fresh = refl
+lent-grant m (rebuild rs) = refl
+lent-grant m (ask q) = lent-reply m q
+lent-grant m (truncation k t) = ap truncated (cutAt-high (read (lent (truncation k t) m)) (read m) refl k t (slabTip (read m) k))
+lent-grant m (report k t) = refl
+
+-- the answer
+pub lent-answer : (m : Memory) (c : Call) → answer (read (lent c m)) c ≡ answer (read m) c
+unfolding answer
+lent-answer m c = λ i. answerBy (lent-refusal m c i) (lent-grant m c i)
+
+joined-effect : (m : Memory) (c : Call) → memoryEffect m c ≡ joined c (memoryEffect (lent c m) c) m
+unfolding lent joined memoryEffect read
+joined-effect m newId = refl
+joined-effect m release = refl
+joined-effect m (offer o) = refl
+joined-effect m commit = refl
+joined-effect m abandon = refl
+joined-effect m fresh = refl
+joined-effect m (rebuild rs) = refl
+joined-effect m (ask q) = joined-lent m (ask q)
+joined-effect m (truncation k t) = refl
+joined-effect m (report k t) = refl
 
 -- the memory: the lent tables are as they would be if the others were [], and the others stay
 pub lent-after : (m : Memory) (c : Call) → memoryAfter m c ≡ joined c (memoryAfter (lent c m) c) m

@@ -1,6 +1,10 @@
 pub mod Verdicts
-pub mod Tables
+pub mod Lists
+pub mod Locations
+pub mod Writes
+pub mod Spots
 pub mod Batches
+pub mod Sizes
 pub mod Granted
 pub mod Answered
 pub mod Rows
@@ -9,8 +13,10 @@ pub mod Words
 pub mod Slabs
 pub mod Steps
 pub mod ReadIds
-pub mod ReadBatches
+pub mod ReadSteps
+pub mod ReadOffer
+pub mod ReadCommit
+pub mod ReadAbandon
 pub mod ReadRelease
 pub mod Read
 pub mod Lent
-pub mod Shapes

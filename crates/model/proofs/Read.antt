@@ -1,66 +1,55 @@
 -- The law of the two levels: what is read from the memory after a call is the store after it, for every call and any contents. So whoever
 -- believes the store's rules and `read` need not look at hints and waiting words. Assumes nothing.
-use mathlib.Core.Path.{_≡_, sym, _∙_, refl}
-use mathlib.Core.Bool.{true, _&&_}
+use mathlib.Core.Path.{_≡_, refl, subst}
+use mathlib.Core.Bool.{Bool, true}
 use mathlib.Core.List.{[]}
-use Prim.Native.Nat.{_*_, pred}
-use lib.ListN.{length}
-use borrow.Author.Tests.{eqb-true}
-use Rattle.refusal.proofs.Tests.{and-true}
-use Rattle.address.specs.Address.{slabs}
-use Rattle.model.specs.Batches.{updatesOf}
+use Prim.Native.Nat.{pred}
+use Rattle.model.specs.Batches.{updatesIn}
+use Rattle.model.specs.Lending.{Lending, lendingOf}
+use Rattle.model.specs.Lent.{fits}
 use Rattle.model.specs.Memory.{Memory, read}
 use Rattle.model.specs.MemoryAfter.{slotsOf, memoryEffect, memoryAfter}
-use Rattle.model.specs.Rebuild.{rowsOf}
+use Rattle.model.specs.Rebuild.{rowsIn}
 use Rattle.model.specs.Step.{effect, refusal, next, unless}
-use Rattle.model.specs.Store.{Call, newId, release, offer, commit, abandon, fresh, rebuild, lookup, counters, defrag, truncation, report}
-use Rattle.model.specs.Tables.{slotMarksFit, capacities, talliesFit, tablesFit, idMarksFit, batchFits, slabTip}
+use Rattle.model.specs.Store.{Call, newId, release, offer, commit, abandon, fresh, rebuild, ask, truncation, report}
+use Rattle.model.specs.Tables.{slabTip}
 use Rattle.model.specs.Verdict.{ok, Verdict, refuse}
 use Rattle.model.proofs.Batches.{ids-updatesOf}
-use Rattle.model.proofs.Granted.{tabled, shape-ok, offer-granted}
-use Rattle.model.proofs.ReadBatches.{memory-fits, read-offer, read-commit, read-abandon}
+use Rattle.model.proofs.Granted.{granted-fits, offer-granted}
+use Rattle.model.proofs.ReadAbandon.{read-abandon}
+use Rattle.model.proofs.ReadCommit.{read-commit}
+use Rattle.model.proofs.ReadOffer.{read-offer}
 use Rattle.model.proofs.ReadIds.{read-newId, read-rebuilt, read-raise, high-words}
 use Rattle.model.proofs.ReadRelease.{read-release}
-use Rattle.model.proofs.Slabs.{length-countedSlabs}
+use Rattle.model.proofs.Sizes.{When, fits-range, fits-slot-marks, fits-batch, fits-tallies}
 use Rattle.model.proofs.Steps.{Fits}
-use Rattle.model.proofs.Verdicts.{first-ok}
-use Rattle.model.proofs.Words.{talliesFit-length, batchFits-length}
 
-slots-fit : (m : Memory) → slotMarksFit (read m) ≡ true → length (m .slotMarks) ≡ slabs * m .slots
-unfolding read
-slots-fit m e = sym (length-countedSlabs (m .slots) (m .tallies) slabs 0 (m .slotMarks)) ∙ eqb-true _ _ e
-
--- a call that is lent slots and tallies and is granted
-fits : (m : Memory) → capacities (m .ids) (m .slots) ≡ true → slotMarksFit (read m) ≡ true → talliesFit (read m) ≡ true → Fits (m .slots) (slotsOf m)
-fits m c s t = memory-fits m c (slots-fit m s) (talliesFit-length m t)
-
-all-fit : (m : Memory) → capacities (m .ids) (m .slots) ≡ true → tablesFit (read m) ≡ true → Fits (m .slots) (slotsOf m)
-all-fit m c t = let a = tabled (read m) t in fits m c (a .slot-marks) (a .tallies)
+-- a call that is lent slots and tallies
+pub slots-fit : (l : Lending) (m : Memory) → fits l m ≡ true → l .slotMarks ≡ true → l .tallies ≡ true → Fits (m .slots) (slotsOf m)
+slots-fit l m e p q = record {
+  low = fits-range l m e .slots-from;
+  high = fits-range l m e .slots-to;
+  marks-long = lent p (fits-slot-marks l m e);
+  words-long = lent q (fits-tallies l m e);
+}
+  where
+    lent : {b : Bool} {A : Type 0} → b ≡ true → When b A → A
+    lent {b} {A} e x = subst (λ y. When y A) e x
 
 pub read-effect : (m : Memory) (c : Call) → refusal (read m) c ≡ ok → read (memoryEffect m c) ≡ effect (read m) c
-unfolding refusal effect memoryEffect read
-read-effect m newId e =
-    let a = shape-ok (read m) _ (first-ok _ _ e) in
-    read-newId m (talliesFit-length m (and-true (idMarksFit (read m) && batchFits (read m)) (talliesFit (read m)) (a .1) .1))
-read-effect m release e =
-    let a = shape-ok (read m) _ (first-ok _ _ e) in
-    let b = and-true (idMarksFit (read m) && slotMarksFit (read m) && batchFits (read m)) (talliesFit (read m)) (a .1) in
-    let c = and-true (idMarksFit (read m) && slotMarksFit (read m)) (batchFits (read m)) (b .0) in
-    read-release m (fits m (a .0) (and-true (idMarksFit (read m)) (slotMarksFit (read m)) (c .0) .1) (b .1))
-read-effect m (offer is ss ns out) e =
-    let o = offer-granted (read m) is ss ns out e in
-    read-offer m is (updatesOf is ss ns) (all-fit m (o .caps) (o .tables)) (batchFits-length m (tabled (read m) (o .tables) .batch)) (o .few)
-    (ids-updatesOf is ss ns (o .stores) (o .lengths))
-read-effect m commit e = let a = shape-ok (read m) _ (first-ok _ _ e) in read-commit m (all-fit m (a .0) (a .1))
-read-effect m abandon e =
-    let a = shape-ok (read m) _ (first-ok _ _ e) in
-    let b = and-true (slotMarksFit (read m) && batchFits (read m)) (talliesFit (read m)) (a .1) in
-    read-abandon m (fits m (a .0) (and-true (slotMarksFit (read m)) (batchFits (read m)) (b .0) .0) (b .1))
+unfolding effect memoryEffect read
+read-effect m newId e = read-newId m (fits-tallies (lendingOf newId) m (granted-fits m newId e))
+read-effect m release e = read-release m (slots-fit (lendingOf release) m (granted-fits m release e) refl refl)
+read-effect m (offer o) e =
+    let f = granted-fits m (offer o) e in
+    let g = offer-granted (read m) o e in
+    read-offer m (o .ids) (updatesIn o) (slots-fit (lendingOf (offer o)) m f refl refl) (fits-batch (lendingOf (offer o)) m f) (g .few)
+    (ids-updatesOf (o .ids) (o .stores) (o .lengths) (g .stores) (g .lengths))
+read-effect m commit e = read-commit m (slots-fit (lendingOf commit) m (granted-fits m commit e) refl refl)
+read-effect m abandon e = read-abandon m (slots-fit (lendingOf abandon) m (granted-fits m abandon e) refl refl)
 read-effect m fresh e = read-rebuilt (m .ids) (m .slots) []
-read-effect m (rebuild is ls) e = read-rebuilt (m .ids) (m .slots) (rowsOf is ls)
-read-effect m (lookup i) e = refl
-read-effect m counters e = refl
-read-effect m (defrag r is ls) e = refl
+read-effect m (rebuild rs) e = read-rebuilt (m .ids) (m .slots) (rowsIn rs)
+read-effect m (ask q) e = refl
 read-effect m (truncation k t) e = read-raise m k (slabTip (read m) k)
 read-effect m (report k t) e = high-words m k (pred (slabTip (read m) k))
 

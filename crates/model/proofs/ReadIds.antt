@@ -9,7 +9,7 @@ use native.Mathlib.Nat.{le-refl}
 use native.Mathlib.Omega.{arith}
 use lib.ListN.{length, set, getD, length-set, take, drop, take-append-drop, replicate}
 use lib.Seq.{getD-drop}
-use Rattle.address.specs.Address.{slabs, isLocation, unit}
+use Rattle.address.specs.Address.{isLocation, unit, slabs}
 use Rattle.id_allocator.specs.Counted.{counted, settle, quiet}
 use Rattle.marks.specs.Marks.{hold, isFree}
 use Rattle.id_allocator.proofs.LawsCounted.{counted-take-id, counted-smallestFree, settle-busy}
@@ -22,7 +22,9 @@ use Rattle.model.specs.Store.{talliesFrom, Tallies, storeOf, Row, batchF
 use Rattle.model.specs.Tables.{bump, useEach, writeAll, locationsOf}
 use Rattle.model.specs.Truncation.{withHigh, raise}
 use Rattle.model.proofs.Slabs.{countedSlabs-words}
-use Rattle.model.proofs.Tables.{length-bump, take-each, set-each, isLocation-says, zeros, writeAll-each}
+use Rattle.model.proofs.Lists.{take-each, set-each, zeros}
+use Rattle.model.proofs.Locations.{isLocation-says}
+use Rattle.model.proofs.Writes.{length-bump, writeAll-each}
 use Rattle.model.proofs.Words.{word-other, word-bump, word-same, tallies-hint, tallies-used, tallies-grant, tallies-high}
 
 -- ---- new id

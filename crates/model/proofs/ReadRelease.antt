@@ -7,6 +7,8 @@ use Prim.Native.Nat.{ℕ, _<_, zero, suc, _≤_, _+_, _*_}
 use native.Mathlib.Decide.{ℕ-discrete}
 use native.Mathlib.Omega.{arith}
 use lib.ListN.{length, length-set, length-map}
+use Rattle.list_parts.specs.Parts.{part}
+use Rattle.list_parts.proofs.Parts.{length-putPart, part-putPart, part-putPart-other, ext-parts, part-map}
 use Rattle.address.specs.Address.{slabs}
 use Rattle.id_allocator.specs.Counted.{hinted, counted}
 use Rattle.marks.specs.Marks.{countIf, isPending, letGo}
@@ -16,10 +18,10 @@ use Rattle.model.specs.Ids.{bumpPending, afterRelease}
 use Rattle.model.specs.Memory.{getWord, putWord, hintWords, waitingWords, freedWords, wordAt, talliesOf, countedBy, read, Memory, batchOf, countedSlabs}
 use Rattle.model.specs.MemoryAfter.{releasedWords, Slots, releaseSlab, releasedMarks, releaseSlabs, slotsOf, memoryRelease, releaseIds}
 use Rattle.model.specs.Store.{Tallies, talliesFrom, storeOf}
-use Rattle.model.specs.Tables.{bump, part}
-use Rattle.model.proofs.Slabs.{length-putPart, part-putPart, part-putPart-other, countedSlabs-words, length-countedSlabs, ext-parts}
+use Rattle.model.specs.Tables.{bump}
+use Rattle.model.proofs.Slabs.{countedSlabs-words, length-countedSlabs}
 use Rattle.model.proofs.Steps.{loud, Fits, part-long, released-read, slotsRead, slab-read}
-use Rattle.model.proofs.Tables.{length-bump, part-map}
+use Rattle.model.proofs.Writes.{length-bump}
 use Rattle.model.proofs.Words.{word-other, word-bump, tallies-waiting, tallies-hint, tallies-free}
 
 -- ---- the words of one allocator

@@ -5,9 +5,9 @@ use mathlib.Core.List.{List, [], _∷_}
 use lib.ListN.{length-map}
 use borrow.Author.Tests.{eq-eqb}
 use Rattle.model.specs.Rebuild.{rowsOf}
-use Rattle.model.specs.Step.{asLong}
 use Rattle.model.specs.Store.{Row}
 use Rattle.model.specs.Tables.{idsOf, locationsOf}
+use Rattle.model.specs.Tests.{asLong}
 
 pub rowsOf-rows : (rs : List Row) → rowsOf (idsOf rs) (locationsOf rs) ≡ rs
 rowsOf-rows [] = refl

@@ -1,71 +1,20 @@
--- Laws of slot tables slab by slab: a table is told by its parts, the marks of a slab count by its own words alone, and what changes one slab
--- is seen in that slab alone (countedSlabs-step, which every call on slots cites). Assumes nothing.
+-- Laws of slot tables slab by slab: the marks of a slab count by its own words alone, and what changes one slab is seen in that slab alone
+-- (countedSlabs-step, which every call on slots cites). Assumes nothing.
 use mathlib.Core.Path.{ap, _≡_, _∙_, sym, refl, subst}
 use mathlib.Core.Logic.{_≢_}
 use mathlib.Core.List.{List, _++_}
-use Prim.Native.Nat.{_-_, ℕ, _≤_, _*_, _<_, _/_, _+_, _%_, suc, zero}
-use native.Mathlib.Nat.{div-add-mod', mod-lt, div-lt-iff-lt-mul, mul-le-mul-right, not-suc-le-zero, suc-mul, add-comm, zero-mul, le-of-suc-le-suc}
-use native.Mathlib.Decide.{decLt, ℕ-discrete}
+use Prim.Native.Nat.{ℕ, _≤_, _*_, _<_, _+_, suc, zero}
+use native.Mathlib.Nat.{not-suc-le-zero, suc-mul, add-comm, zero-mul, le-of-suc-le-suc}
+use native.Mathlib.Decide.{ℕ-discrete}
 use native.Mathlib.Omega.{arith}
-use lib.ListN.{length, getD, take, length-take, length-append, length-drop, drop, List·getD-append, take-append-drop}
-use lib.Seq.{ext-getD, length-take-le, drop-at, take-at, getD-take, getD-append-add, getD-drop, drop-append-add, drop-drop}
+use lib.ListN.{length, take, length-append, length-drop, drop, take-append-drop}
+use lib.Seq.{length-take-le, take-at, drop-append-add, drop-drop}
+use Rattle.list_parts.specs.Parts.{part}
+use Rattle.list_parts.proofs.Parts.{ext-parts}
 use Rattle.address.specs.Address.{slabs}
 use Rattle.id_allocator.specs.Counted.{counted}
 use Rattle.id_allocator.proofs.LawsCounted.{counted-length}
 use Rattle.model.specs.Memory.{countedSlabs, countedBy, getWord, hintWords, waitingWords}
-use Rattle.model.specs.MemoryAfter.{putPart}
-use Rattle.model.specs.Tables.{part, slotPlace}
-use Rattle.model.proofs.Tables.{part-at, length-part}
-
--- ---- a table is told by its parts
-
-pub ext-parts : (cap n : ℕ) (t u : List ℕ) → 1 ≤ cap → length t ≡ n * cap → length u ≡ n * cap → ((i : ℕ) → i < n → part cap t i ≡ part cap u i) → t ≡ u
-ext-parts cap n t u c lt lu h = ext-getD 0 t u (lt ∙ sym lu) (λ p b.
-    let e : p / cap * cap + p % cap ≡ p = div-add-mod' p cap in
-    let slot : p % cap < cap = mod-lt p c in
-    let slab : p / cap < n = div-lt-iff-lt-mul c .1 (rw lt at b) in
-    ap (λ x. getD t x 0) (sym e) ∙ sym (part-at cap t (p / cap) (p % cap) slot)
-    ∙ ap (λ x. getD x (p % cap) 0) (h (p / cap) slab)
-    ∙ part-at cap u (p / cap) (p % cap) slot ∙ ap (λ x. getD u x 0) e)
-
--- ---- putPart
-
-module _ (cap : ℕ) (t : List ℕ) (k : ℕ) (p : List ℕ) (inside : k * cap + cap ≤ length t) (fits : length p ≡ cap) where
-  before : length (take (k * cap) t) ≡ k * cap
-  before = length-take-le (k * cap) t (omega arith)
-
-  pub length-putPart : length (putPart cap t k p) ≡ length t
-  length-putPart = simp (length-append, length-drop, before, fits) (omega arith)
-
-  pub part-putPart : part cap (putPart cap t k p) k ≡ p
-  part-putPart = ap (take cap) (drop-at (take (k * cap) t) _ (k * cap) before) ∙ take-at p _ cap fits
-
-  getD-low : (q : ℕ) → q < k * cap → getD (putPart cap t k p) q 0 ≡ getD t q 0
-  getD-low q h = List·getD-append (take (k * cap) t) _ 0 q (rw before h) ∙ getD-take (k * cap) t q 0 h
-
-  getD-high : (r : ℕ) → getD (putPart cap t k p) (k * cap + (cap + r)) 0 ≡ getD t (k * cap + (cap + r)) 0
-  getD-high r =
-      ap (λ x. getD (putPart cap t k p) (x + (cap + r)) 0) (sym before)
-      ∙ getD-append-add (take (k * cap) t) (p ++ drop cap (drop (k * cap) t)) (cap + r) 0
-      ∙ ap (λ x. getD (p ++ drop cap (drop (k * cap) t)) (x + r) 0) (sym fits)
-      ∙ getD-append-add p (drop cap (drop (k * cap) t)) r 0
-      ∙ getD-drop cap (drop (k * cap) t) r 0
-      ∙ getD-drop (k * cap) t (cap + r) 0
-
-  pub part-putPart-other : (i : ℕ) → i ≢ k → part cap (putPart cap t k p) i ≡ part cap t i
-  part-putPart-other i n = ext-getD 0 _ _ (simp (length-take, length-drop, length-putPart)) (λ j b.
-      let h : j < cap = omega (arith, length-part cap (putPart cap t k p) i) in
-      part-at cap (putPart cap t k p) i j h ∙ go j h (decLt i k) ∙ sym (part-at cap t i j h))
-    where
-      go : (j : ℕ) → j < cap → Dec (i < k) → getD (putPart cap t k p) (i * cap + j) 0 ≡ getD t (i * cap + j) 0
-      go j h (yes q) = getD-low (i * cap + j) (omega (arith, mul-le-mul-right cap q))
-      go j h (no q) =
-          let m : suc k ≤ i = omega arith in
-          let b = mul-le-mul-right cap m in
-          let e : k * cap + (cap + (i * cap + j - (k * cap + cap))) ≡ i * cap + j = omega arith in
-          rw e at (getD-high (i * cap + j - (k * cap + cap)))
-
--- ---- countedSlabs
 
 pub length-countedSlabs : (cap : ℕ) (g : List ℕ) (n k : ℕ) (t : List ℕ) → length (countedSlabs cap g n k t) ≡ length t
 unfolding countedSlabs

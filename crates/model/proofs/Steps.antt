@@ -4,19 +4,21 @@ use mathlib.Core.Path.{ap, _≡_, refl, _∙_, sym}
 use mathlib.Core.Logic.{_≢_}
 use mathlib.Core.List.{List, map}
 use Prim.Native.Nat.{ℕ, _≤_, _*_, _<_, suc, _+_, zero}
-use native.Mathlib.Nat.{mul-le-mul-right, suc-mul, zero-add}
+use native.Mathlib.Nat.{zero-add}
 use native.Mathlib.Omega.{arith}
-use lib.ListN.{length, length-take, length-drop, set, length-set, length-map}
+use lib.ListN.{length, set, length-set, length-map}
+use Rattle.list_parts.specs.Parts.{putPart, part}
+use Rattle.list_parts.proofs.Parts.{length-putPart, part-putPart-other, part-putPart, part-here, part-there, part-end, length-part-full}
 use Rattle.address.specs.Address.{slabs}
 use Rattle.id_allocator.specs.Counted.{counted, hinted, settle, quiet}
 use Rattle.marks.specs.Marks.{firstFree, smallestFree, letGo, countIf, isPending}
 use Rattle.id_allocator.specs.Written.{hintBack, givenBack}
 use Rattle.id_allocator.proofs.LawsCounted.{counted-take, counted-smallestFree, counted-first-pending, counted-pending, counted-giveBack, counted-length, counted-quiet-release, counted-release}
 use Rattle.model.specs.Memory.{getWord, countedSlabs, hintWords, waitingWords, countedBy, putWord, usedWords, grantedWords, wordAt, freedWords}
-use Rattle.model.specs.MemoryAfter.{Slots, tookSlot, pendedSlot, setSlot, readyBy, putPart, gaveSlot, releasedWords, releasedMarks}
-use Rattle.model.specs.Tables.{part, slotPlace, bump}
-use Rattle.model.proofs.Slabs.{part-countedSlabs, length-countedSlabs, countedSlabs-step, length-putPart, part-putPart-other, part-putPart}
-use Rattle.model.proofs.Tables.{part-here, part-there, length-bump}
+use Rattle.model.specs.MemoryAfter.{Slots, tookSlot, pendedSlot, setSlot, readyBy, gaveSlot, releasedWords, releasedMarks}
+use Rattle.model.specs.Tables.{bump}
+use Rattle.model.proofs.Slabs.{part-countedSlabs, length-countedSlabs, countedSlabs-step}
+use Rattle.model.proofs.Writes.{length-bump}
 use Rattle.model.proofs.Words.{word-other, word-bump, word-same}
 
 -- the tables have their lengths
@@ -49,10 +51,8 @@ slab-read cap s f k h = let z : 0 + k ≡ k = omega arith in rw z at (part-count
 
 pub part-long : (cap : ℕ) (s : Slots) → Fits cap s → (k : ℕ) → k < slabs → (k * cap + cap ≤ length (s .marks)) × (length (part cap (s .marks) k) ≡ cap)
 part-long cap s f k h =
-    let m = mul-le-mul-right cap h in
-    let e : suc k * cap ≡ k * cap + cap = suc-mul k cap in
-    let a : k * cap + cap ≤ length (s .marks) = omega (arith, f .marks-long) in
-    (a, simp (length-take, length-drop) (omega arith))
+    let a : k * cap + cap ≤ length (s .marks) = rw (f .marks-long) (part-end cap slabs k h) in
+    (a, length-part-full cap (s .marks) k a)
 
 -- ---- slot j of slab k
 

@@ -10,10 +10,12 @@ use lib.ListN.{length, set, drop, length-take, length-drop, length-set}
 use lib.Seq.{getD-set-same, getD-set-other, drop-set-lt, ext-getD, drop-set-add}
 use borrow.Author.Tests.{eqb-true}
 use Rattle.refusal.proofs.Tests.{and-true}
+use Rattle.list_parts.specs.Parts.{part}
+use Rattle.list_parts.proofs.Parts.{part-here, part-there, length-part, part-at}
 use Rattle.model.specs.Memory.{getWord, wordAt, putWord, talliesOf, grantedWords, freedWords, usedWords, hintWords, waitingWords, highWords, Memory, read}
 use Rattle.model.specs.Store.{talliesFrom, Store}
-use Rattle.model.specs.Tables.{bump, part, talliesFit, batchFits}
-use Rattle.model.proofs.Tables.{bump-other, part-here, part-there, length-part, part-at}
+use Rattle.model.specs.Tables.{bump, talliesFit, batchFits}
+use Rattle.model.proofs.Writes.{bump-other}
 
 -- ---- one word
 
@@ -71,7 +73,7 @@ take-high : (g : List ℕ) (k v i : ℕ) → i < 5 → kinds (putWord g highWord
 take-high g k v i h = ext-getD 0 _ _ (simp (length-take, length-drop, length-set))
     (λ p b.
     let q : p < 79 = omega (arith, b, length-part 79 (putWord g highWords k v) i) in
-    part-at 79 (putWord g highWords k v) i p q ∙ getD-set-other g (wordAt highWords k) (i * 79 + p) v 0 (omega arith) ∙ sym (part-at 79 g i p q))
+    part-at 79 (putWord g highWords k v) i p 0 q ∙ getD-set-other g (wordAt highWords k) (i * 79 + p) v 0 (omega arith) ∙ sym (part-at 79 g i p 0 q))
 
 pub tallies-high : (g : List ℕ) (k v : ℕ)
     → talliesOf (putWord g highWords k v) ≡ talliesFrom (talliesOf g .granted) (talliesOf g .freed) (talliesOf g .used) (set (talliesOf g .high) k v)
@@ -84,28 +86,10 @@ pub tallies-grant : (g : List ℕ) (a n : ℕ) → a < 79
     → talliesOf (bump g (wordAt grantedWords a) n) ≡ talliesFrom (bump (talliesOf g .granted) a n) (talliesOf g .freed) (talliesOf g .used) (talliesOf g .high)
 tallies-grant g a zero h = refl
 tallies-grant g a (suc n) h = tallies-granted g a _ h
-    ∙ ap (λ x. talliesFrom (set (talliesOf g .granted) a ((x + suc n) % 2 ^ 64)) (talliesOf g .freed) (talliesOf g .used) (talliesOf g .high)) (sym (part-at 79 g 0 a h))
+    ∙ ap (λ x. talliesFrom (set (talliesOf g .granted) a ((x + suc n) % 2 ^ 64)) (talliesOf g .freed) (talliesOf g .used) (talliesOf g .high)) (sym (part-at 79 g 0 a 0 h))
 
 pub tallies-free : (g : List ℕ) (a n : ℕ) → a < 79
     → talliesOf (bump g (wordAt freedWords a) n) ≡ talliesFrom (talliesOf g .granted) (bump (talliesOf g .freed) a n) (talliesOf g .used) (talliesOf g .high)
 tallies-free g a zero h = refl
 tallies-free g a (suc n) h = tallies-freed g a _ h
-    ∙ ap (λ x. talliesFrom (talliesOf g .granted) (set (talliesOf g .freed) a ((x + suc n) % 2 ^ 64)) (talliesOf g .used) (talliesOf g .high)) (sym (part-at 79 g 1 a h))
-
--- ---- lengths
-
-high-length : (s : Store) → talliesFit s ≡ true → length (s .tallies .high) ≡ 78
-high-length s e = eqb-true _ _ (and-true
-    (eqb (length (s .tallies .granted)) 79 && eqb (length (s .tallies .freed)) 79 && eqb (length (s .tallies .used)) 79)
-    (eqb (length (s .tallies .high)) 78) e .1)
-
-kept-length : (s : Store) → batchFits s ≡ true → length (s .batch .keptLocations) ≡ 256
-kept-length s e = eqb-true _ _ (and-true (eqb (length (s .batch .keptIds)) 256) (eqb (length (s .batch .keptLocations)) 256) e .1)
-
-pub talliesFit-length : (m : Memory) → talliesFit (read m) ≡ true → length (m .tallies) ≡ 473
-unfolding read
-talliesFit-length m e = let l : length (drop 395 (m .tallies)) ≡ 78 = high-length (read m) e in omega (arith, length-drop 395 (m .tallies))
-
-pub batchFits-length : (m : Memory) → batchFits (read m) ≡ true → length (m .batch) ≡ 513
-unfolding read
-batchFits-length m e = let l : length (drop 257 (m .batch)) ≡ 256 = kept-length (read m) e in omega (arith, length-drop 257 (m .batch))
+    ∙ ap (λ x. talliesFrom (talliesOf g .granted) (set (talliesOf g .freed) a ((x + suc n) % 2 ^ 64)) (talliesOf g .used) (talliesOf g .high)) (sym (part-at 79 g 1 a 0 h))

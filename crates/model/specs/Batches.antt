@@ -5,12 +5,14 @@ use Prim.Native.Nat.{ℕ, zero, suc}
 use lib.Dec.{leb, ltb, eqb}
 use lib.ListN.{length, set, drop}
 use Rattle.refusal.specs.Refusals.{tooLarge, noSuchId, repeatedId, noneFree, tablesDisagree}
+use Rattle.list_parts.specs.Lists.{elem}
+use Rattle.list_parts.specs.Parts.{part}
 use Rattle.sizes.specs.Sizes.{slabFor}
-use Rattle.address.specs.Address.{slabs, packing, isLocation}
+use Rattle.address.specs.Address.{packing, isLocation, slabs}
 use Rattle.marks.specs.Marks.{isFree, countIf, firstFree}
-use Rattle.model.specs.Store.{Store, withIdMarks, withLocations, withSlotMarks, withOwners, withBatch, withTallies, Update, put, free, Row}
+use Rattle.model.specs.Store.{Store, withIdMarks, withLocations, withSlotMarks, withOwners, withBatch, withTallies, Update, put, free, Row, Offer}
 use Rattle.model.specs.Verdict.{Verdict, ok, _⨾_, test}
-use Rattle.model.specs.Tables.{write, writeAll, part, locationOf, inIds, heldId, badLocation, locationsOf, elem, kept, shut, bumpEach, useEach}
+use Rattle.model.specs.Tables.{write, writeAll, locationOf, inIds, heldId, badLocation, locationsOf, kept, shut, bumpEach, useEach}
 
 -- ---- offer
 
@@ -24,6 +26,9 @@ updatesOf [] ss ns = []
 updatesOf (i ∷ is) [] ns = []
 updatesOf (i ∷ is) (s ∷ ss) [] = []
 updatesOf (i ∷ is) (s ∷ ss) (n ∷ ns) = updateOf s i n ∷ updatesOf is ss ns
+
+abbrev pub updatesIn : Offer → List Update
+updatesIn o = updatesOf (o .ids) (o .stores) (o .lengths)
 
 abbrev pub idOf : Update → ℕ
 idOf (put i n) = i

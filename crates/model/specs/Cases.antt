@@ -3,35 +3,64 @@
 use mathlib.Core.Bool.{Bool, true, false, _&&_}
 use mathlib.Core.List.{List, [], _∷_, _++_, map}
 use Prim.Native.Nat.{ℕ}
+use lib.Dec.{eqb}
 use lib.ListN.{replicate}
 use lib.IntN.{negsuc}
 use lib.Ieee.{Float, fin}
+use Rattle.refusal.specs.Outcomes.{Values, granted, refused}
 use Rattle.refusal.specs.Refusals.{noneFree}
 use Rattle.address.specs.Address.{packing}
 use Rattle.fragmentation.specs.Cutoff.{cutoff}
-use Rattle.model.specs.Store.{Store, Call, newId, release, offer, commit, rebuild, lookup, counters, defrag, Answer, refused, gave, placed, counts, moves, cut}
+use Rattle.model.specs.Store.{Store, Call, newId, release, offer, commit, rebuild, ask, lookup, counters, defrag, cut, Grant, gave}
+use Rattle.model.specs.Store.{placed, counts, moves, truncated, Answer}
+use Rattle.model.specs.Rebuild.{columns}
 use Rattle.model.specs.Truncation.{cutOf}
-use Rattle.model.specs.Numbers.{Said, said, sameSaid}
+use Rattle.model.specs.Outcomes.{valuesOf, listsOf}
 use Rattle.model.specs.Step.{answer, state}
 
 -- what the rules give, and what the document says
 pub record Case : Type 0 where
-  pub given : Said
-  pub written : Said
+  pub given : Values
+  pub written : Values
+
+-- the lists for the answer are values here too
+abbrev pub concat : List (List ℕ) → List ℕ
+concat [] = []
+concat (xs ∷ xss) = xs ++ concat xss
+
+abbrev pub said : Answer → Values
+said (granted g) = granted (valuesOf g ++ concat (listsOf g))
+said (refused n i) = refused n i
 
 abbrev pub case : Answer → Answer → Case
 case a b = record { given = said a; written = said b }
 
+-- of what is granted
+abbrev pub caseOf : Grant → Grant → Case
+caseOf a b = case (granted a) (granted b)
+
+abbrev pub sameList : List ℕ → List ℕ → Bool
+sameList [] [] = true
+sameList [] (y ∷ ys) = false
+sameList (x ∷ xs) [] = false
+sameList (x ∷ xs) (y ∷ ys) = eqb x y && sameList xs ys
+
+abbrev pub same : Values → Values → Bool
+same (granted xs) (granted ys) = sameList xs ys
+same (granted xs) (refused n i) = false
+same (refused n i) (granted ys) = false
+same (refused n i) (refused k j) = eqb n k && eqb i j
+
 abbrev pub allHold : List Case → Bool
 allHold [] = true
-allHold (c ∷ cs) = sameSaid (c .given) (c .written) && allHold cs
+allHold (c ∷ cs) = same (c .given) (c .written) && allHold cs
 
 -- a batch of Stores of three bytes; a batch of Frees
 abbrev pub stores : List ℕ → Call
-stores is = offer is (map (λ (i : ℕ). true) is) (map (λ (i : ℕ). 3) is) is
+stores is = offer (record { ids = is; stores = map (λ (i : ℕ). true) is; lengths = map (λ (i : ℕ). 3) is; placed = is })
 
 abbrev pub frees : List ℕ → Call
-frees is = offer is (map (λ (i : ℕ). false) is) is is
+frees is = offer (record { ids = is; stores = map (λ (i : ℕ). false) is; lengths = is; placed = is })
 
 abbrev pub threeQuarters : Float
 threeQuarters = fin false 3 (negsuc 1)
@@ -63,33 +92,33 @@ nineOfTen =
     frees (1 ∷ []) ∷ commit ∷ release ∷ []
 
 abbrev pub defragOf : Float → ℕ → Call
-defragOf r n = defrag r (replicate n 0) (replicate n 0)
+defragOf r n = ask (defrag r (replicate n 0) (replicate n 0))
 
 unfoldable pub cases : List Case
 cases =
     -- P8: with the release the next id is 2, without it 4
-    case (answer (state 9 4 (stored3 ++ release ∷ [])) newId) (gave 2) ∷
-    case (answer (state 9 4 stored3) newId) (gave 4) ∷
+    case (answer (state 9 4 (stored3 ++ release ∷ [])) newId) (granted (gave 2)) ∷
+    case (answer (state 9 4 stored3) newId) (granted (gave 4)) ∷
     -- P9: from 4; nothing, which is from the tip on
-    case (gave (cutoff 3 8 threeQuarters)) (gave 4) ∷
-    case (gave (cutoff 4 8 half)) (gave 8) ∷
+    caseOf (gave (cutoff 3 8 threeQuarters)) (gave 4) ∷
+    caseOf (gave (cutoff 4 8 half)) (gave 8) ∷
     -- P10, by slab 64, top and high mark 99, t 80
-    case (cutOf 64 39 99 80) (cut 2944 0) ∷
-    case (cutOf 64 16 99 80) (cut 1251 0) ∷
-    case (cutOf 64 15 99 80) (cut 1024 0) ∷
+    caseOf (truncated (cutOf 64 39 99 80)) (truncated (cut 2944 0)) ∷
+    caseOf (truncated (cutOf 64 16 99 80)) (truncated (cut 1251 0)) ∷
+    caseOf (truncated (cutOf 64 15 99 80)) (truncated (cut 1024 0)) ∷
     -- the run whole: slab 0 slot 5 has id 6, slot 7 id 8
-    case (answer afterWhole (defragOf threeQuarters 8)) (moves ((6, packing 0 5) ∷ (8, packing 0 7) ∷ [])) ∷
+    case (answer afterWhole (defragOf threeQuarters 8)) (granted (moves ((6, packing 0 5) ∷ (8, packing 0 7) ∷ []))) ∷
     -- the quotient is rounded before it is cut: 9 / r is 10, not 9 and a fraction, so that nothing is listed
-    case (answer (state 11 10 nineOfTen) (defragOf aboveNineTenths 10)) (moves []) ∷
+    case (answer (state 11 10 nineOfTen) (defragOf aboveNineTenths 10)) (granted (moves [])) ∷
     -- a committed Store is found
-    case (answer afterWhole (lookup 6)) (gave (packing 0 5)) ∷
+    case (answer afterWhole (ask (lookup 6))) (granted (gave (packing 0 5))) ∷
     -- its counters: 0 was held with the first id, and five ids and slots were freed
-    case (answer afterWhole counters)
-    (counts (9 ∷ 8 ∷ replicate 77 0) (5 ∷ 5 ∷ replicate 77 0)
-    (record { objectsAllocated = 9; objectsFreed = 5; heapSlotsAllocated = 8; heapSlotsFreed = 5 })) ∷
+    case (answer afterWhole (ask counters))
+    (granted (counts (9 ∷ 8 ∷ replicate 77 0) (5 ∷ 5 ∷ replicate 77 0)
+    (record { objectsAllocated = 9; objectsFreed = 5; heapSlotsAllocated = 8; heapSlotsFreed = 5 }))) ∷
     -- a slot freed at commit is pending: the next batch takes another
-    case (answer (state 9 4 stored3) (stores (1 ∷ []))) (placed (packing 0 3 ∷ [])) ∷
+    case (answer (state 9 4 stored3) (stores (1 ∷ []))) (granted (placed (packing 0 3 ∷ []))) ∷
     case (answer (state 9 4 stored3) (stores (1 ∷ 3 ∷ []))) (refused noneFree 0) ∷
     -- after a rebuild 0 is free, and is not issued
-    case (answer (state 9 4 (rebuild (1 ∷ 3 ∷ []) (packing 0 0 ∷ packing 0 1 ∷ []) ∷ [])) newId) (gave 2) ∷
+    case (answer (state 9 4 (rebuild (columns ((1, packing 0 0) ∷ (3, packing 0 1) ∷ [])) ∷ [])) newId) (granted (gave 2)) ∷
     []

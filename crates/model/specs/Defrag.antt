@@ -5,7 +5,7 @@ use Prim.Native.Nat.{ℕ, zero, suc, _+_, _-_, _*_}
 use lib.Dec.{eqb}
 use lib.ListN.{getD}
 use lib.Ieee.{Float}
-use Rattle.address.specs.Address.{slabs, packing}
+use Rattle.address.specs.Address.{packing, slabs}
 use Rattle.fragmentation.specs.Cutoff.{cutoff}
 use Rattle.model.specs.Store.{Store, Row}
 use Rattle.model.specs.Tables.{slabTip, live, locationOf, inIds}

@@ -3,10 +3,11 @@ use mathlib.Core.Bool.{cond}
 use mathlib.Core.List.{List, [], _∷_, map}
 use Prim.Native.Nat.{ℕ, zero, suc, _+_, _%_, _^_}
 use lib.ListN.{getD, set, drop}
+use Rattle.list_parts.specs.Parts.{part}
 use Rattle.address.specs.Address.{slabs}
 use Rattle.marks.specs.Marks.{isFree, isPending, countIf, smallestFree, hold, letGo}
 use Rattle.model.specs.Store.{Tallies, Store, withIdMarks, withSlotMarks, withTallies, Sums}
-use Rattle.model.specs.Tables.{part, bump}
+use Rattle.model.specs.Tables.{bump}
 
 -- ---- new id
 

@@ -1,39 +1,71 @@
--- Which tables each call is lent, and what the lists for its answer hold afterwards. A contract speaks of a memory in which every table that
--- the call is not lent is []: proofs/Lent says that neither the answer nor the lent tables depend on the others. Assumes nothing.
-use mathlib.Core.Bool.{Bool, true, false, cond}
-use mathlib.Core.List.{List, [], _++_}
-use Prim.Native.Nat.{ℕ}
-use lib.ListN.{length, drop}
-use Rattle.model.specs.Store.{Call, newId, release, offer, commit, abandon, fresh, rebuild, lookup, counters, defrag, truncation, report}
-use Rattle.model.specs.Store.{Answer, refused, done, gave, placed, counts, moves, keep, cut}
-use Rattle.model.specs.Tables.{idsOf, locationsOf}
-use Rattle.model.specs.Memory.{Memory, memoryOf}
+-- The memory that a call is lent. A contract speaks of a memory in which every table that the call is not lent is []: proofs/Lent says that
+-- neither the answer nor the lent tables depend on the others. Assumes nothing.
+use mathlib.Core.Bool.{Bool, true, false, cond, _&&_}
+use mathlib.Core.List.{List, []}
+use Prim.Native.Nat.{ℕ, _*_}
+use lib.Dec.{eqb}
+use lib.ListN.{length}
+use Rattle.address.specs.Address.{slabs}
+use Rattle.model.specs.Store.{Call, Answer}
+use Rattle.model.specs.Tables.{capacities}
+use Rattle.model.specs.Lending.{Lending, ifLent, lendingOf}
+use Rattle.model.specs.Step.{answer}
+use Rattle.model.specs.Memory.{batchWords, tallyWords, Memory, memoryOf, read}
+use Rattle.model.specs.MemoryAfter.{memoryAfter}
 
--- which of the tables a call is lent: id marks, locations, slot marks, owners, batch, tallies
-pub record Lending : Type 0 where
-  pub idMarks : Bool
-  pub locations : Bool
-  pub slotMarks : Bool
-  pub owners : Bool
-  pub batch : Bool
-  pub tallies : Bool
+-- ---- what a call takes: its capacities, then each table that it is lent, in their order
 
-abbrev pub lends : Bool → Bool → Bool → Bool → Bool → Bool → Lending
-lends i l s o b t = record { idMarks = i; locations = l; slotMarks = s; owners = o; batch = b; tallies = t }
+-- A table's argument where it is lent, and no argument where it is not. So a contract has just the tables that Lending says.
+abbrev pub Taking : Type 0 → Bool → Type 0 → Type 0
+Taking T true A = T → A
+Taking T false A = A
 
-abbrev pub lendingOf : Call → Lending
-lendingOf newId = lends true false false false true true
-lendingOf release = lends true false true false true true
-lendingOf (offer is ss ns out) = lends true true true true true true
-lendingOf commit = lends true true true true true true
-lendingOf abandon = lends false false true false true true
-lendingOf fresh = lends true true true true true true
-lendingOf (rebuild is ls) = lends true true true true true true
-lendingOf (lookup i) = lends true true true true false true
-lendingOf counters = lends false false false false false true
-lendingOf (defrag r is ls) = lends false true true true true true
-lendingOf (truncation k t) = lends false false true false true true
-lendingOf (report k t) = lends false false true false true true
+abbrev pub taking : {T A : Type 0} → T → (lent : Bool) → (T → A) → Taking T lent A
+taking none true f = f
+taking none false f = f none
+
+-- of type T for each table, and of type A with all of them
+abbrev pub Taken : Type 0 → Lending → Type 0 → Type 0
+Taken T l A =
+    Taking T (l .idMarks) (Taking T (l .locations) (Taking T (l .slotMarks) (Taking T (l .owners) (Taking T (l .batch) (Taking T (l .tallies) A)))))
+
+abbrev pub taken : {T A : Type 0} → T → (l : Lending) → (T → T → T → T → T → T → A) → Taken T l A
+taken none l f =
+    taking none (l .idMarks) (λ im. taking none (l .locations) (λ lo. taking none (l .slotMarks) (λ sm.
+    taking none (l .owners) (λ ow. taking none (l .batch) (λ b. taking none (l .tallies) (λ g. f im lo sm ow b g))))))
+
+-- the memory of the tables that a call is lent; the others are []
+abbrev pub lentBy : (l : Lending) → ℕ → ℕ → Taken (List ℕ) l Memory
+lentBy l n m = taken [] l (memoryOf n m)
+
+abbrev pub lentTo : (c : Call) → ℕ → ℕ → Taken (List ℕ) (lendingOf c) Memory
+lentTo c n m = lentBy (lendingOf c) n m
+
+-- what the call answers on them, and what they hold after it
+abbrev pub answered : (c : Call) → ℕ → ℕ → Taken (List ℕ) (lendingOf c) Answer
+answered c n m = taken [] (lendingOf c) (λ im lo sm ow b g. answer (read (memoryOf n m im lo sm ow b g)) c)
+
+abbrev pub leaves : (c : Call) → ℕ → ℕ → Taken (List ℕ) (lendingOf c) Memory
+leaves c n m = taken [] (lendingOf c) (λ im lo sm ow b g. memoryAfter (memoryOf n m im lo sm ow b g) c)
+
+-- ---- refusal 1 in lengths: capacities, then the length of each table, of which only those that are lent are looked at
+
+unfoldable pub lengthsFit : Lending → ℕ → ℕ → ℕ → ℕ → ℕ → ℕ → ℕ → ℕ → Bool
+lengthsFit l n m im lo sm ow b g =
+    capacities n m &&
+    (ifLent (l .idMarks) (eqb im n) && ifLent (l .locations) (eqb lo n) && ifLent (l .slotMarks) (eqb sm (slabs * m)) &&
+    ifLent (l .owners) (eqb ow (slabs * m)) && ifLent (l .batch) (eqb b batchWords) && ifLent (l .tallies) (eqb g tallyWords))
+
+abbrev pub fits : Lending → Memory → Bool
+fits l m =
+    lengthsFit l (m .ids) (m .slots) (length (m .idMarks)) (length (m .locations)) (length (m .slotMarks)) (length (m .owners))
+    (length (m .batch)) (length (m .tallies))
+
+-- by the lengths of the lent tables alone
+abbrev pub fitsBy : (l : Lending) → ℕ → ℕ → Taken ℕ l Bool
+fitsBy l n m = taken 0 l (lengthsFit l n m)
+
+-- ---- the tables of two memories
 
 -- the lent tables of the first memory, the others of the second
 abbrev pub chosen : Lending → Memory → Memory → Memory
@@ -55,39 +87,3 @@ lent c m = chosen (lendingOf c) m (memoryOf (m .ids) (m .slots) [] [] [] [] [] [
 -- the whole memory after a call, where the lent tables are as in a and the caller keeps the others as in m
 unfoldable pub joined : Call → Memory → Memory → Memory
 joined c a m = chosen (lendingOf c) a m
-
--- rows written over the first of a lent list; those past them keep what they held
-abbrev pub over : List ℕ → List ℕ → List ℕ
-over xs t = xs ++ drop (length xs) t
-
--- the lent list of an offer after its answer
-abbrev pub placedIn : Answer → List ℕ → List ℕ
-placedIn (refused n i) out = out
-placedIn done out = out
-placedIn (gave n) out = out
-placedIn (placed ls) out = over ls out
-placedIn (counts g f z) out = out
-placedIn (moves ms) out = out
-placedIn keep out = out
-placedIn (cut n b) out = out
-
--- the lent lists of a defrag, for ids and for locations
-abbrev pub movedIn : Answer → List ℕ → List ℕ
-movedIn (refused n i) out = out
-movedIn done out = out
-movedIn (gave n) out = out
-movedIn (placed ls) out = out
-movedIn (counts g f z) out = out
-movedIn (moves ms) out = over (idsOf ms) out
-movedIn keep out = out
-movedIn (cut n b) out = out
-
-abbrev pub movedTo : Answer → List ℕ → List ℕ
-movedTo (refused n i) out = out
-movedTo done out = out
-movedTo (gave n) out = out
-movedTo (placed ls) out = out
-movedTo (counts g f z) out = out
-movedTo (moves ms) out = over (locationsOf ms) out
-movedTo keep out = out
-movedTo (cut n b) out = out

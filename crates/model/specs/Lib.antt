@@ -1,13 +1,16 @@
 pub mod Store
 pub mod Verdict
 pub mod Tables
+pub mod Lending
+pub mod Tests
 pub mod Ids
 pub mod Batches
 pub mod Rebuild
 pub mod Defrag
 pub mod Truncation
+pub mod Questions
 pub mod Step
-pub mod Numbers
+pub mod Outcomes
 pub mod Cases
 pub mod Memory
 pub mod MemoryAfter

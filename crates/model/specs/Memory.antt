@@ -2,16 +2,17 @@
 use mathlib.Core.List.{List, _++_}
 use Prim.Native.Nat.{ℕ, zero, suc, _+_, _*_}
 use lib.ListN.{getD, set, take, drop}
+use Rattle.list_parts.specs.Parts.{part}
 use Rattle.address.specs.Address.{slabs}
 use Rattle.id_allocator.specs.Counted.{counted}
 use Rattle.model.specs.Store.{Batch, Tallies, Store}
-use Rattle.model.specs.Tables.{part, mostUpdates, allocators}
+use Rattle.model.specs.Tables.{mostUpdates, allocators}
 
 -- The capacities, and the tables in the order in which calls take them.
 --   id marks, locations     one for each id
 --   slot marks, owners      one for each slot, slab by slab
---   batch      513 words    the opened word; 256 ids; 256 new locations
---   tallies    473 words    79 each of granted, freed, used, hint and waiting (the ids' allocator, then the slabs'); 78 high marks
+--   batch                   the opened word; 256 ids; 256 new locations
+--   tallies                 79 each of granted, freed, used, hint and waiting (the ids' allocator, then the slabs'); 78 high marks
 -- A table that a call is not lent is [].
 pub record Memory : Type 0 where
   pub ids : ℕ
@@ -25,6 +26,18 @@ pub record Memory : Type 0 where
 
 abbrev pub memoryOf : ℕ → ℕ → List ℕ → List ℕ → List ℕ → List ℕ → List ℕ → List ℕ → Memory
 memoryOf n m im lo sm ow b g = record { ids = n; slots = m; idMarks = im; locations = lo; slotMarks = sm; owners = ow; batch = b; tallies = g }
+
+-- ---- the words of the batch
+
+-- where the kept ids start, and the kept locations
+abbrev pub keptIdsAt : ℕ
+keptIdsAt = 1
+
+abbrev pub keptLocationsAt : ℕ
+keptLocationsAt = keptIdsAt + mostUpdates
+
+abbrev pub batchWords : ℕ
+batchWords = keptLocationsAt + mostUpdates
 
 -- ---- the words of the tallies
 
@@ -46,6 +59,9 @@ waitingWords = 4
 abbrev pub highWords : ℕ
 highWords = 5
 
+abbrev pub tallyWords : ℕ
+tallyWords = highWords * allocators + slabs
+
 -- where the word of a kind stands that belongs to an allocator, or, of the high marks, to a slab
 abbrev pub wordAt : ℕ → ℕ → ℕ
 wordAt kind a = kind * allocators + a
@@ -59,7 +75,7 @@ putWord g kind a v = set g (wordAt kind a) v
 -- ---- the store that the tables stand for
 
 abbrev pub batchOf : List ℕ → Batch
-batchOf b = record { opened = getD b 0 0; keptIds = take mostUpdates (drop 1 b); keptLocations = drop 257 b }
+batchOf b = record { opened = getD b 0 0; keptIds = take mostUpdates (drop keptIdsAt b); keptLocations = drop keptLocationsAt b }
 
 abbrev pub talliesOf : List ℕ → Tallies
 talliesOf g = record {

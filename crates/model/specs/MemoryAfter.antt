@@ -1,21 +1,23 @@
 -- What the lent tables hold after each call, word for word. A refusal leaves them. proofs/Read has the law of each call: what is
 -- read from them afterwards is the store after the call. Assumes nothing.
 use mathlib.Core.Bool.{cond}
-use mathlib.Core.List.{List, [], _∷_, _++_, map}
+use mathlib.Core.List.{List, [], _∷_, map}
 use Prim.Native.Nat.{ℕ, zero, suc, _+_, _*_, _/_, _%_, max, min, pred}
-use lib.ListN.{length, getD, set, take, drop, replicate}
+use lib.ListN.{length, getD, set, replicate}
 use lib.Seq.{sets}
-use Rattle.address.specs.Address.{slabs, unit, isLocation}
+use Rattle.list_parts.specs.Parts.{part, putPart}
+use Rattle.address.specs.Address.{unit, isLocation, slabs}
 use Rattle.marks.specs.Marks.{isFree, isPending, countIf, hold, letGo}
 use Rattle.id_allocator.specs.Counted.{settle, hinted}
 use Rattle.id_allocator.specs.Written.{givenBack, hintBack}
-use Rattle.model.specs.Store.{Row, Call, newId, release, offer, commit, abandon, fresh, rebuild, lookup, counters, defrag, truncation, report}
-use Rattle.model.specs.Tables.{write, writeAll, part, slabTip, locationsOf, kept, bump}
+use Rattle.model.specs.Store.{Row, Call, newId, release, offer, commit, abandon, fresh, rebuild, ask, truncation, report}
+use Rattle.model.specs.Tables.{write, writeAll, slabTip, locationsOf, kept, bump}
 use Rattle.model.specs.Ids.{nextId}
-use Rattle.model.specs.Batches.{updatesOf, takenBy}
-use Rattle.model.specs.Rebuild.{rowsOf, heldBy, locatedBy, ownedBy}
+use Rattle.model.specs.Batches.{updatesIn, takenBy}
+use Rattle.model.specs.Rebuild.{rowsIn, heldBy, locatedBy, ownedBy}
 use Rattle.model.specs.Step.{refusal, unless}
-use Rattle.model.specs.Memory.{Memory, memoryOf, grantedWords, freedWords, usedWords, hintWords, waitingWords, highWords, wordAt, getWord, putWord, read}
+use Rattle.model.specs.Memory.{Memory, memoryOf, keptIdsAt, keptLocationsAt, batchWords, tallyWords, grantedWords, freedWords}
+use Rattle.model.specs.Memory.{usedWords, hintWords, waitingWords, highWords, wordAt, getWord, putWord, read}
 
 -- ---- one table changed
 
@@ -38,10 +40,6 @@ slotsOf m = record { marks = m .slotMarks; words = m .tallies }
 
 abbrev pub withSlots : Memory → Slots → Memory
 withSlots m s = memoryOf (m .ids) (m .slots) (m .idMarks) (m .locations) (s .marks) (m .owners) (m .batch) (s .words)
-
--- a slab's part of a slot table replaced
-abbrev pub putPart : ℕ → List ℕ → ℕ → List ℕ → List ℕ
-putPart cap t k p = take (k * cap) t ++ (p ++ drop cap (drop (k * cap) t))
 
 -- ---- new id: the mark is written, and the hint moves past it
 
@@ -102,7 +100,7 @@ takeSlots cap s [] = s
 takeSlots cap s (l ∷ ls) = takeSlots cap (takeSlot cap s l) ls
 
 abbrev pub keptWords : List ℕ → List ℕ → List ℕ → List ℕ
-keptWords b is ls = set (sets (sets b 1 is) 257 ls) 0 (suc (length is))
+keptWords b is ls = set (sets (sets b keptIdsAt is) keptLocationsAt ls) 0 (suc (length is))
 
 abbrev pub memoryOffer : Memory → List ℕ → List ℕ → Memory
 memoryOffer m is ls = withKept (withSlots m (takeSlots (m .slots) (slotsOf m) ls)) (keptWords (m .batch) is ls)
@@ -185,8 +183,8 @@ memoryRebuilt n m rs = record {
   locations = locatedBy rs (replicate n 0);
   slotMarks = writeAll m (locationsOf rs) 1 (replicate (slabs * m) 0);
   owners = ownedBy m rs (replicate (slabs * m) 0);
-  batch = replicate 513 0;
-  tallies = useSlots m (putWord (replicate 473 0) usedWords 0 (min 1 (length rs))) (locationsOf rs);
+  batch = replicate batchWords 0;
+  tallies = useSlots m (putWord (replicate tallyWords 0) usedWords 0 (min 1 (length rs))) (locationsOf rs);
 }
 
 -- ---- truncation and cut report: a high mark
@@ -203,14 +201,12 @@ withWords m g = withIds m (m .idMarks) g
 unfoldable pub memoryEffect : Memory → Call → Memory
 memoryEffect m newId = memoryNewId m
 memoryEffect m release = memoryRelease m
-memoryEffect m (offer is ss ns out) = memoryOffer m is (takenBy (read m) (updatesOf is ss ns))
+memoryEffect m (offer o) = memoryOffer m (o .ids) (takenBy (read m) (updatesIn o))
 memoryEffect m commit = memoryCommit m
 memoryEffect m abandon = memoryAbandon m
 memoryEffect m fresh = memoryRebuilt (m .ids) (m .slots) []
-memoryEffect m (rebuild is ls) = memoryRebuilt (m .ids) (m .slots) (rowsOf is ls)
-memoryEffect m (lookup i) = m
-memoryEffect m counters = m
-memoryEffect m (defrag r ids locations) = m
+memoryEffect m (rebuild rs) = memoryRebuilt (m .ids) (m .slots) (rowsIn rs)
+memoryEffect m (ask q) = m
 memoryEffect m (truncation k t) = withWords m (raiseWord (m .tallies) k (slabTip (read m) k))
 memoryEffect m (report k t) = withWords m (putWord (m .tallies) highWords k (pred (slabTip (read m) k)))
 

@@ -4,14 +4,22 @@ use mathlib.Core.List.{List, [], _∷_}
 use Prim.Native.Nat.{ℕ, suc, _*_, min}
 use lib.ListN.{length, set, replicate}
 use Rattle.refusal.specs.Refusals.{outOfRange, noSuchId, repeatedId, repeatedLocation}
-use Rattle.address.specs.Address.{slabs, isLocation}
-use Rattle.model.specs.Store.{Store, Row}
+use Rattle.list_parts.specs.Lists.{elem}
+use Rattle.address.specs.Address.{isLocation, slabs}
+use Rattle.model.specs.Store.{Store, Row, Rows}
 use Rattle.model.specs.Verdict.{Verdict, ok, _⨾_, test}
-use Rattle.model.specs.Tables.{mostUpdates, allocators, write, writeAll, inIds, pairs, locationsOf, elem, useEach}
+use Rattle.model.specs.Tables.{mostUpdates, allocators, write, writeAll, inIds, pairs, idsOf, locationsOf, useEach}
 
 -- the rows of two lists
 abbrev pub rowsOf : List ℕ → List ℕ → List Row
 rowsOf is ls = pairs (length is) is ls
+
+abbrev pub rowsIn : Rows → List Row
+rowsIn rs = rowsOf (rs .ids) (rs .locations)
+
+-- and the lists of rows
+abbrev pub columns : List Row → Rows
+columns rs = record { ids = idsOf rs; locations = locationsOf rs }
 
 -- per row: `is` and `ls` are the ids and locations of those before it, i is its index
 abbrev pub rows : Store → List ℕ → List ℕ → ℕ → List Row → Verdict

@@ -1,79 +1,59 @@
 -- Every call: its refusal in document 01's order, its answer where it is granted, and the store after it. A refusal writes nothing.
 -- Assumes nothing.
-use mathlib.Core.Bool.{Bool, not, _&&_, _||_}
+use mathlib.Core.Bool.{not, _&&_, _||_}
 use mathlib.Core.List.{List, [], _∷_}
-use Prim.Native.Nat.{ℕ, suc, pred}
-use lib.Dec.{leb, ltb, eqb}
+use Prim.Native.Nat.{ℕ, pred}
+use lib.Dec.{leb, ltb}
 use lib.ListN.{length, set}
-use Rattle.refusal.specs.Refusals.{wrongShape, outOfRange, noSuchId, noneFree, batchOpen, noBatch, tablesDisagree, ratioOutOfRange, tooMany, nothingToCut}
+use Rattle.refusal.specs.Outcomes.{granted, refused}
+use Rattle.refusal.specs.Refusals.{outOfRange, noneFree, ratioOutOfRange, tooMany, nothingToCut}
 use Rattle.address.specs.Address.{slabs}
-use Rattle.fragmentation.specs.Cutoff.{isRatio}
-use Rattle.model.specs.Store.{Store, Call, newId, release, offer, commit, abandon, fresh, rebuild, lookup, counters, defrag, truncation, report}
-use Rattle.model.specs.Store.{Answer, refused, done, gave, placed, counts, moves}
+use Rattle.model.specs.Store.{Store, Call, newId, release, offer, commit, abandon, fresh, rebuild, ask, truncation, report, Grant}
+use Rattle.model.specs.Store.{done, gave, placed, truncated, Answer}
 use Rattle.model.specs.Verdict.{Verdict, ok, refuse, _⨾_, test}
-use Rattle.model.specs.Tables.{mostUpdates, capacities, idMarksFit, locationsFit, slotMarksFit, ownersFit, batchFits, talliesFit, tablesFit, slabTip, locationOf, heldId, badLocation, isOpen, kept}
-use Rattle.model.specs.Ids.{nextId, afterNewId, afterRelease, sumsOf}
-use Rattle.model.specs.Batches.{updatesOf, updates, room, takenBy, afterOffer, commitRows, afterCommit, abandonRows, afterAbandon}
-use Rattle.model.specs.Rebuild.{rowsOf, rows, rebuilt, freshStore}
-use Rattle.model.specs.Defrag.{allMoves}
+use Rattle.model.specs.Tables.{mostUpdates, slabTip, kept}
+use Rattle.model.specs.Tests.{shape, lists, asLong, noneOpen, oneOpen}
+use Rattle.model.specs.Ids.{nextId, afterNewId, afterRelease}
+use Rattle.model.specs.Batches.{updatesIn, updates, room, takenBy, afterOffer, commitRows, afterCommit, abandonRows, afterAbandon}
+use Rattle.model.specs.Rebuild.{rowsIn, rows, rebuilt, freshStore}
 use Rattle.model.specs.Truncation.{isTarget, highMark, cutAt, keeps, raise, withHigh}
+use Rattle.model.specs.Questions.{askRefusal, reply}
 
 -- ---- refusals
 
--- the capacities, and what the call is lent
-abbrev pub shape : Store → Bool → Verdict
-shape s fit = test (not (capacities (s .ids) (s .slots) && fit)) wrongShape 0
-
-abbrev pub noneOpen : Store → Verdict
-noneOpen s = test (isOpen s) batchOpen 0
-
--- a batch is open, of at most 256 updates
-abbrev pub oneOpen : Store → Verdict
-oneOpen s = test (not (isOpen s)) noBatch 0 ⨾ test (ltb (suc mostUpdates) (s .batch .opened)) tablesDisagree 0
-
--- as long as the first list
-abbrev pub asLong : {A B : Type 0} → List A → List B → Bool
-asLong xs ys = eqb (length ys) (length xs)
-
 abbrev pub slabRefusal : Store → ℕ → ℕ → Verdict
-slabRefusal s k t =
-    shape s (slotMarksFit s && batchFits s && talliesFit s) ⨾ noneOpen s ⨾
-    test (leb slabs k || leb (s .slots) (highMark s k)) outOfRange 0 ⨾ test (not (isTarget t)) ratioOutOfRange 0
+slabRefusal s k t = noneOpen s ⨾ test (leb slabs k || leb (s .slots) (highMark s k)) outOfRange 0 ⨾ test (not (isTarget t)) ratioOutOfRange 0
+
+-- of a call whose tables fit
+unfoldable pub refusalOf : Store → Call → Verdict
+refusalOf s newId = noneOpen s ⨾ test (leb (s .ids) (nextId s)) noneFree 0
+refusalOf s release = noneOpen s
+refusalOf s (offer o) =
+    lists (asLong (o .ids) (o .stores) && asLong (o .ids) (o .lengths) && asLong (o .ids) (o .placed)) ⨾ noneOpen s ⨾
+    test (ltb mostUpdates (length (o .ids))) tooMany 0 ⨾ updates s [] 0 (updatesIn o) ⨾ room (s .slots) (s .slotMarks) (updatesIn o) slabs 0
+refusalOf s commit = oneOpen s ⨾ commitRows s 0 (kept s)
+refusalOf s abandon = oneOpen s ⨾ abandonRows s 0 (kept s)
+refusalOf s fresh = ok
+refusalOf s (rebuild rs) = lists (asLong (rs .ids) (rs .locations)) ⨾ rows s [] [] 0 (rowsIn rs)
+refusalOf s (ask q) = askRefusal s q
+refusalOf s (truncation k t) = slabRefusal s k t
+refusalOf s (report k t) = slabRefusal s k t ⨾ test (keeps (cutAt s k t (slabTip s k))) nothingToCut 0
 
 unfoldable pub refusal : Store → Call → Verdict
-refusal s newId = shape s (idMarksFit s && batchFits s && talliesFit s) ⨾ noneOpen s ⨾ test (leb (s .ids) (nextId s)) noneFree 0
-refusal s release = shape s (idMarksFit s && slotMarksFit s && batchFits s && talliesFit s) ⨾ noneOpen s
-refusal s (offer is ss ns out) =
-    shape s (tablesFit s && (asLong is ss && asLong is ns && asLong is out)) ⨾ noneOpen s ⨾ test (ltb mostUpdates (length is)) tooMany 0 ⨾
-    updates s [] 0 (updatesOf is ss ns) ⨾ room (s .slots) (s .slotMarks) (updatesOf is ss ns) slabs 0
-refusal s commit = shape s (tablesFit s) ⨾ oneOpen s ⨾ commitRows s 0 (kept s)
-refusal s abandon = shape s (slotMarksFit s && batchFits s && talliesFit s) ⨾ oneOpen s ⨾ abandonRows s 0 (kept s)
-refusal s fresh = shape s (tablesFit s)
-refusal s (rebuild is ls) = shape s (tablesFit s && asLong is ls) ⨾ rows s [] [] 0 (rowsOf is ls)
-refusal s (lookup i) =
-    shape s (idMarksFit s && locationsFit s && slotMarksFit s && ownersFit s && talliesFit s) ⨾
-    test (not (heldId s i) || eqb (locationOf s i) 0) noSuchId 0 ⨾ test (badLocation s i) tablesDisagree 0
-refusal s counters = shape s (talliesFit s)
-refusal s (defrag r ids locations) =
-    shape s (locationsFit s && slotMarksFit s && ownersFit s && batchFits s && talliesFit s && (eqb (suc (length ids)) (s .ids) && asLong ids locations)) ⨾
-    noneOpen s ⨾ test (not (isRatio r)) ratioOutOfRange 0
-refusal s (truncation k t) = slabRefusal s k t
-refusal s (report k t) = slabRefusal s k t ⨾ test (keeps (cutAt s k t (slabTip s k))) nothingToCut 0
+refusal s c = shape s c ⨾ refusalOf s c
 
 -- ---- what a granted call answers
 
-unfoldable pub grant : Store → Call → Answer
+unfoldable pub grant : Store → Call → Grant
 grant s newId = gave (nextId s)
 grant s release = done
-grant s (offer is ss ns out) = placed (takenBy s (updatesOf is ss ns))
+grant s (offer o) = placed (takenBy s (updatesIn o))
 grant s commit = done
 grant s abandon = done
 grant s fresh = done
-grant s (rebuild is ls) = done
-grant s (lookup i) = gave (locationOf s i)
-grant s counters = counts (s .tallies .granted) (s .tallies .freed) (sumsOf (s .tallies))
-grant s (defrag r ids locations) = moves (allMoves s r)
-grant s (truncation k t) = cutAt s k t (slabTip s k)
+grant s (rebuild rs) = done
+grant s (ask q) = reply s q
+grant s (truncation k t) = truncated (cutAt s k t (slabTip s k))
 grant s (report k t) = done
 
 -- ---- the store after a granted call
@@ -81,22 +61,20 @@ grant s (report k t) = done
 unfoldable pub effect : Store → Call → Store
 effect s newId = afterNewId s
 effect s release = afterRelease s
-effect s (offer is ss ns out) = afterOffer s (updatesOf is ss ns)
+effect s (offer o) = afterOffer s (updatesIn o)
 effect s commit = afterCommit s
 effect s abandon = afterAbandon s
 effect s fresh = freshStore (s .ids) (s .slots)
-effect s (rebuild is ls) = rebuilt (s .ids) (s .slots) (rowsOf is ls)
-effect s (lookup i) = s
-effect s counters = s
-effect s (defrag r ids locations) = s
+effect s (rebuild rs) = rebuilt (s .ids) (s .slots) (rowsIn rs)
+effect s (ask q) = s
 effect s (truncation k t) = withHigh s (raise (s .tallies .high) k (slabTip s k))
 effect s (report k t) = withHigh s (set (s .tallies .high) k (pred (slabTip s k)))
 
 -- ---- answer and next
 
-abbrev pub answerBy : Verdict → Answer → Answer
-answerBy ok a = a
-answerBy (refuse n i) a = refused n i
+abbrev pub answerBy : Verdict → Grant → Answer
+answerBy ok g = granted g
+answerBy (refuse n i) g = refused n i
 
 abbrev pub unless : {A : Type 0} → Verdict → A → A → A
 unless ok old new = new

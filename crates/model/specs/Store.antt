@@ -3,6 +3,8 @@ use mathlib.Core.Bool.{Bool}
 use mathlib.Core.List.{List}
 use Prim.Native.Nat.{ℕ}
 use lib.Ieee.{Float}
+use Rattle.refusal.specs.Outcomes.{Outcome, finishedAs}
+use Rattle.refusal.specs.declared.Finished.{Finished}
 
 -- ---- the store
 
@@ -74,20 +76,34 @@ pub data Update : Type 0 where
 abbrev pub Row : Type 0
 Row = ℕ × ℕ
 
+-- A batch as it is offered: of each update its id, whether it is a Store, and the object's length; and the lent list for the locations.
+pub record Offer : Type 0 where
+  pub ids : List ℕ
+  pub stores : List Bool
+  pub lengths : List ℕ
+  pub placed : List ℕ
+
+-- the rows of a rebuild
+pub record Rows : Type 0 where
+  pub ids : List ℕ
+  pub locations : List ℕ
+
+-- What only looks, and leaves the store as it is. crate model's Questions says of each what it is lent, refused and granted.
+pub data Question : Type 0 where
+  lookup : ℕ → Question
+  counters : Question
+  -- the fill ratio, and the lent lists for ids and locations
+  defrag : Float → List ℕ → List ℕ → Question
+
 pub data Call : Type 0 where
   newId : Call
   release : Call
-  -- ids, whether each is a Store, object lengths, and the lent list for the answer's locations
-  offer : List ℕ → List Bool → List ℕ → List ℕ → Call
+  offer : Offer → Call
   commit : Call
   abandon : Call
   fresh : Call
-  -- ids and locations
-  rebuild : List ℕ → List ℕ → Call
-  lookup : ℕ → Call
-  counters : Call
-  -- the fill ratio, and the lent lists for ids and locations
-  defrag : Float → List ℕ → List ℕ → Call
+  rebuild : Rows → Call
+  ask : Question → Call
   -- a slab, and t
   truncation : ℕ → ℕ → Call
   report : ℕ → ℕ → Call
@@ -99,17 +115,28 @@ pub record Sums : Type 0 where
   pub heapSlotsAllocated : ℕ
   pub heapSlotsFreed : ℕ
 
-pub data Answer : Type 0 where
-  -- a refusal's number and index
-  refused : ℕ → ℕ → Answer
-  done : Answer
-  -- a new id; a location
-  gave : ℕ → Answer
-  -- the location of each update
-  placed : List ℕ → Answer
-  -- granted and freed of each allocator
-  counts : List ℕ → List ℕ → Sums → Answer
-  moves : List Row → Answer
-  keep : Answer
+-- what becomes of a slab's file
+pub data Cut : Type 0 where
+  keep : Cut
   -- the new length, and the bytes given back
-  cut : ℕ → ℕ → Answer
+  cut : ℕ → ℕ → Cut
+
+-- what a call grants
+pub data Grant : Type 0 where
+  done : Grant
+  -- a new id; a location
+  gave : ℕ → Grant
+  -- the location of each update
+  placed : List ℕ → Grant
+  -- granted and freed of each allocator
+  counts : List ℕ → List ℕ → Sums → Grant
+  moves : List Row → Grant
+  truncated : Cut → Grant
+
+-- refused with a number and an index, or granted
+abbrev pub Answer : Type 0
+Answer = Outcome Grant
+
+-- the answer of a call that grants nothing but that it was done
+abbrev pub finishedAnswer : Finished → Answer
+finishedAnswer f = finishedAs done f

@@ -4,8 +4,9 @@ use mathlib.Core.Bool.{Bool, false, not, cond, _&&_, _||_}
 use mathlib.Core.List.{List, [], _∷_, map}
 use Prim.Native.Nat.{ℕ, zero, suc, _+_, _*_, _/_, _%_, _^_, pred}
 use lib.Dec.{ltb, eqb}
-use lib.ListN.{length, getD, set, take, drop}
-use Rattle.address.specs.Address.{slabs, unit, isLocation, badSlots}
+use lib.ListN.{length, getD, set}
+use Rattle.list_parts.specs.Parts.{part}
+use Rattle.address.specs.Address.{unit, isLocation, badSlots, slabs}
 use Rattle.marks.specs.Marks.{isHeld, tip, countIf, isTaken}
 use Rattle.model.specs.Store.{Batch, Store, Row}
 
@@ -23,11 +24,7 @@ abbrev pub writeAll : ℕ → List ℕ → ℕ → List ℕ → List ℕ
 writeAll cap [] v t = t
 writeAll cap (l ∷ ls) v t = writeAll cap ls v (write cap l v t)
 
--- the part of a slot table that is slab k's
-abbrev pub part : ℕ → List ℕ → ℕ → List ℕ
-part cap t k = take cap (drop (k * cap) t)
-
--- the tip of a slab, and its live slots
+-- the tip of a slab, whose slots are a part of the slot tables, and its live slots
 abbrev pub slabTip : Store → ℕ → ℕ
 slabTip s k = tip (part (s .slots) (s .slotMarks) k) (getD (s .tallies .used) (suc k) 0)
 
@@ -39,8 +36,13 @@ live s k = countIf isTaken (part (s .slots) (s .slotMarks) k)
 abbrev pub mostUpdates : ℕ
 mostUpdates = 256
 
+-- the opened word of a batch of as many
+abbrev pub mostOpened : ℕ
+mostOpened = suc mostUpdates
+
+-- the ids' allocator, then the slabs'
 abbrev pub allocators : ℕ
-allocators = 79
+allocators = suc slabs
 
 -- an id capacity is 2 to 65,536
 unfoldable pub badIds : ℕ → Bool
@@ -70,13 +72,6 @@ talliesFit s =
     eqb (length (s .tallies .granted)) allocators && eqb (length (s .tallies .freed)) allocators &&
     eqb (length (s .tallies .used)) allocators && eqb (length (s .tallies .high)) slabs
 
--- all six
-abbrev pub tablesFit : Store → Bool
-tablesFit s = idMarksFit s && locationsFit s && slotMarksFit s && ownersFit s && batchFits s && talliesFit s
-
-unfoldable pub sized : Store → Bool
-sized s = capacities (s .ids) (s .slots) && tablesFit s
-
 -- ---- ids
 
 abbrev pub locationOf : Store → ℕ → ℕ
@@ -94,7 +89,8 @@ heldId s i = inIds s i && isHeld (getD (s .idMarks) i 0)
 abbrev pub badAt : Store → ℕ → ℕ → Bool
 badAt s i zero = false
 badAt s i (suc l) =
-    not (isLocation (s .slots) (suc l) && isHeld (getD (s .slotMarks) (slotPlace (s .slots) (suc l)) 0) && eqb (getD (s .owners) (slotPlace (s .slots) (suc l)) 0) i)
+    not (isLocation (s .slots) (suc l) && isHeld (getD (s .slotMarks) (slotPlace (s .slots) (suc l)) 0) &&
+    eqb (getD (s .owners) (slotPlace (s .slots) (suc l)) 0) i)
 
 abbrev pub badLocation : Store → ℕ → Bool
 badLocation s i = badAt s i (locationOf s i)
@@ -113,10 +109,6 @@ idsOf rs = map (λ (r : Row). r .0) rs
 
 abbrev pub locationsOf : List Row → List ℕ
 locationsOf rs = map (λ (r : Row). r .1) rs
-
-abbrev pub elem : ℕ → List ℕ → Bool
-elem x [] = false
-elem x (y ∷ ys) = eqb x y || elem x ys
 
 -- ---- the kept batch
 

@@ -5,7 +5,7 @@ use Prim.Native.Nat.{ℕ, zero, suc, _-_, _*_, _/_, max}
 use lib.Dec.{leb, ltb}
 use lib.ListN.{getD, set}
 use Rattle.sizes.specs.Sizes.{sizeOf}
-use Rattle.model.specs.Store.{Store, withTallies, Answer, refused, done, gave, placed, counts, moves, keep, cut}
+use Rattle.model.specs.Store.{Store, withTallies, Cut, keep, cut}
 
 -- t is 1 to 86
 abbrev pub isTarget : ℕ → Bool
@@ -26,21 +26,15 @@ newLength size top = cond (ltb top 16) (suc top * size) (suc top * size * 115 / 
 abbrev pub bytesGivenBack : ℕ → ℕ → ℕ
 bytesGivenBack size top = suc top * size - newLength size top
 
-abbrev pub cutOf : ℕ → ℕ → ℕ → ℕ → Answer
+abbrev pub cutOf : ℕ → ℕ → ℕ → ℕ → Cut
 cutOf size top high t = cond (ltb (fill size top high) t) (cut (newLength size top) (bytesGivenBack size top)) keep
 
 -- by the tip of slab k: at tip 0 keep, else by the top and the larger of the stored mark and the top
-abbrev pub cutAt : Store → ℕ → ℕ → ℕ → Answer
+abbrev pub cutAt : Store → ℕ → ℕ → ℕ → Cut
 cutAt s k t zero = keep
 cutAt s k t (suc top) = cutOf (sizeOf k) top (max (highMark s k) top) t
 
-abbrev pub keeps : Answer → Bool
-keeps (refused n i) = true
-keeps done = true
-keeps (gave n) = true
-keeps (placed ls) = true
-keeps (counts g f z) = true
-keeps (moves ms) = true
+abbrev pub keeps : Cut → Bool
 keeps keep = true
 keeps (cut n b) = false
 

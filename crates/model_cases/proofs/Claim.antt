@@ -10,10 +10,12 @@ use Rattle.model.specs.Tables.{badIds}
 use Rattle.model.specs.Ids.{bumpPending}
 use Rattle.model.specs.Batches.{room}
 use Rattle.model.specs.Defrag.{movesFrom}
-use Rattle.model.specs.Step.{refusal, grant, effect, answer, next}
+use Rattle.model.specs.Lending.{lentFit}
+use Rattle.model.specs.Questions.{askRefusal, reply}
+use Rattle.model.specs.Step.{refusalOf, refusal, grant, effect, answer, next}
 use Rattle.model.specs.Cases.{allHold, cases}
 use Rattle.model_cases.specs.Cases.{table}
 
 pub claim : allHold table ≡ true
-unfolding table cases classOf slabFor firstFit slabSizes fieldWidth sizeOf badSlots packed unpacked _⨾_ test answer next refusal grant effect badIds isRatio cutoff div le lt eq ofInt toUnsigned round units odd size span climb room bumpPending movesFrom
+unfolding table cases classOf slabFor firstFit slabSizes fieldWidth sizeOf badSlots packed unpacked _⨾_ test answer next refusal refusalOf askRefusal reply lentFit grant effect badIds isRatio cutoff div le lt eq ofInt toUnsigned round units odd size span climb room bumpPending movesFrom
 claim = refl

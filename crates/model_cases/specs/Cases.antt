@@ -2,33 +2,27 @@
 use mathlib.Core.List.{List, [], _∷_}
 use Prim.Native.Nat.{ℕ}
 use Rattle.refusal.specs.Refusals.{tooLarge}
-use Rattle.refusal.specs.Outcomes.{Outcome, granted, refusedWith}
+use Rattle.refusal.specs.Outcomes.{Values, granted, refused}
 use Rattle.sizes.specs.Sizes.{classOf}
 use Rattle.sizes.specs.Outcomes.{classOutcome}
 use Rattle.address.specs.Address.{packed, unpacked}
 use Rattle.address.specs.Outcomes.{packedOutcome, unpackedOutcome}
-use Rattle.model.specs.Numbers.{Said}
 use Rattle.model.specs.Cases.{Case, cases}
 
--- an outcome's number and values, as the store's answers have them
-abbrev said : Outcome → Said
-said (granted values) = record { number = 0; values = values }
-said (refusedWith n i) = record { number = n; values = i ∷ [] }
-
 -- what the definitions give, and what document 01 says
-abbrev case : Outcome → Outcome → Case
-case gives says = record { given = said gives; written = said says }
+abbrev case : Values → Values → Case
+case gives says = record { given = gives; written = says }
 
-abbrev class : ℕ → Outcome → Case
+abbrev class : ℕ → Values → Case
 class size says = case (classOutcome (classOf size)) says
 
 abbrev packs : ℕ → ℕ → ℕ → Case
 packs slab slot location = case (packedOutcome (packed 65536 (record { slab = slab; slot = slot }))) (granted (location ∷ []))
 
-abbrev unpacks : ℕ → Outcome → Case
+abbrev unpacks : ℕ → Values → Case
 unpacks location says = case (unpackedOutcome (unpacked 65536 location)) says
 
-abbrev slab : ℕ → Outcome
+abbrev slab : ℕ → Values
 slab k = granted (k ∷ [])
 
 unfoldable pub table : List Case
@@ -44,7 +38,7 @@ table =
     -- P5
     class 4294967284 (slab 73) ∷ class 4294967285 (slab 74) ∷
     -- P6
-    class 17179869172 (slab 77) ∷ class 17179869173 (refusedWith tooLarge 0) ∷
+    class 17179869172 (slab 77) ∷ class 17179869173 (refused tooLarge 0) ∷
     -- P7
     packs 0 0 72057594037927936 ∷ packs 77 5 5620492334958379013 ∷
     unpacks 72057594037927936 (granted (0 ∷ 0 ∷ [])) ∷ unpacks 5620492334958379013 (granted (77 ∷ 5 ∷ [])) ∷

@@ -7,151 +7,170 @@ use Prim.Native.Nat.{ℕ}
 use lib.ListN.{set, replicate}
 use lib.IntN.{pos, negsuc}
 use lib.Ieee.{nan, inf, fin}
-use Rattle.model.specs.Store.{Store, Call, newId, release, offer, commit, abandon, fresh, rebuild, lookup, counters, truncation, report}
-use Rattle.model.specs.Store.{Answer, refused, done, gave, placed, counts, moves, keep, cut}
+use Rattle.refusal.specs.Outcomes.{granted, refused}
+use Rattle.model.specs.Store.{Store, Call, newId, release, offer, commit, abandon, rebuild, ask, lookup, counters, truncation, report}
+use Rattle.model.specs.Store.{keep, cut, Grant, done, gave, placed, counts, moves, truncated, Answer}
+use Rattle.model.specs.Tables.{allocators}
 use Rattle.model.specs.Rebuild.{freshStore}
 use Rattle.model.specs.Step.{answer, next}
-use Rattle.model.specs.Numbers.{said, sameSaid}
-use Rattle.model.specs.Cases.{defragOf}
+use Rattle.model.specs.Cases.{said, same, defragOf}
 
 -- a call, and what was answered
 pub record Asked : Type 0 where
   pub call : Call
   pub answered : Answer
 
-abbrev pub asked : Call → Answer → Asked
-asked c a = record { call = c; answered = a }
+-- granted
+abbrev pub asked : Call → Grant → Asked
+asked c g = record { call = c; answered = granted g }
+
+-- refused, with a number and an index
+abbrev pub denied : Call → ℕ → ℕ → Asked
+denied c n i = record { call = c; answered = refused n i }
+
+abbrev pub offerOf : List ℕ → List Bool → List ℕ → List ℕ → Call
+offerOf is ss ls ps = offer (record { ids = is; stores = ss; lengths = ls; placed = ps })
+
+abbrev pub rebuildOf : List ℕ → List ℕ → Call
+rebuildOf is ls = rebuild (record { ids = is; locations = ls })
 
 -- of some allocators the granted and freed numbers, 0 of the others; and the sums
 abbrev pub grantedFrom : List (ℕ × ℕ × ℕ) → List ℕ
-grantedFrom [] = replicate 79 0
+grantedFrom [] = replicate allocators 0
 grantedFrom (c ∷ cs) = set (grantedFrom cs) (c .0) (c .1)
 
 abbrev pub freedFrom : List (ℕ × ℕ × ℕ) → List ℕ
-freedFrom [] = replicate 79 0
+freedFrom [] = replicate allocators 0
 freedFrom (c ∷ cs) = set (freedFrom cs) (c .0) (c .2)
 
-abbrev pub countsFrom : List (ℕ × ℕ × ℕ) → ℕ → ℕ → ℕ → ℕ → Answer
+abbrev pub countsFrom : List (ℕ × ℕ × ℕ) → ℕ → ℕ → ℕ → ℕ → Grant
 countsFrom cs a b c d = counts (grantedFrom cs) (freedFrom cs)
     (record { objectsAllocated = a; objectsFreed = b; heapSlotsAllocated = c; heapSlotsFreed = d })
 
 -- every call is answered so, one after the other
 abbrev pub agrees : Store → List Asked → Bool
 agrees s [] = true
-agrees s (q ∷ qs) = sameSaid (said (answer s (q .call))) (said (q .answered)) && agrees (next s (q .call)) qs
+agrees s (q ∷ qs) = same (said (answer s (q .call))) (said (q .answered)) && agrees (next s (q .call)) qs
 
 -- stores.txt, history 1: the first 9 calls after fresh
 unfoldable pub sample1 : List Asked
 sample1 =
     asked newId (gave 1) ∷ asked newId (gave 2) ∷ asked newId (gave 3) ∷
-    asked (offer (1 ∷ 2 ∷ 3 ∷ []) (true ∷ true ∷ true ∷ []) (3 ∷ 3 ∷ 3 ∷ []) (1 ∷ 2 ∷ 3 ∷ [])) (placed (72057594037927936 ∷ 72057594037927937 ∷ 72057594037927938 ∷ [])) ∷
-    asked commit done ∷ asked (offer (2 ∷ []) (false ∷ []) (0 ∷ []) (2 ∷ [])) (placed (0 ∷ [])) ∷ asked commit done ∷ asked release done ∷
+    asked (offerOf (1 ∷ 2 ∷ 3 ∷ []) (true ∷ true ∷ true ∷ []) (3 ∷ 3 ∷ 3 ∷ []) (1 ∷ 2 ∷ 3 ∷ []))
+    (placed (72057594037927936 ∷ 72057594037927937 ∷ 72057594037927938 ∷ [])) ∷
+    asked commit done ∷ asked (offerOf (2 ∷ []) (false ∷ []) (0 ∷ []) (2 ∷ [])) (placed (0 ∷ [])) ∷ asked commit done ∷ asked release done ∷
     asked newId (gave 2) ∷ []
 
 -- stores.txt, history 8: the first 33 calls after fresh
 unfoldable pub sample2 : List Asked
 sample2 =
-    asked release done ∷ asked newId (gave 1) ∷ asked newId (gave 2) ∷ asked counters (countsFrom ((0, 3, 0) ∷ []) 3 0 0 0) ∷
-    asked (offer (2 ∷ []) (true ∷ []) (3 ∷ []) (2 ∷ [])) (placed (72057594037927936 ∷ [])) ∷ asked commit done ∷ asked release done ∷
-    asked (rebuild (2 ∷ []) (72057594037927936 ∷ [])) done ∷ asked (defragOf (fin false 1 (negsuc 0)) 4) (moves []) ∷ asked newId (gave 1) ∷
-    asked (truncation 0 86) keep ∷ asked (report 0 86) (refused 17 0) ∷ asked (truncation 0 86) keep ∷ asked (report 0 86) (refused 17 0) ∷
+    asked release done ∷ asked newId (gave 1) ∷ asked newId (gave 2) ∷ asked (ask counters) (countsFrom ((0, 3, 0) ∷ []) 3 0 0 0) ∷
+    asked (offerOf (2 ∷ []) (true ∷ []) (3 ∷ []) (2 ∷ [])) (placed (72057594037927936 ∷ [])) ∷ asked commit done ∷ asked release done ∷
+    asked (rebuildOf (2 ∷ []) (72057594037927936 ∷ [])) done ∷ asked (defragOf (fin false 1 (negsuc 0)) 4) (moves []) ∷ asked newId (gave 1) ∷
+    asked (truncation 0 86) (truncated keep) ∷ denied (report 0 86) 17 0 ∷ asked (truncation 0 86) (truncated keep) ∷ denied (report 0 86) 17 0 ∷
     asked (defragOf (fin false 15099495 (negsuc 23)) 4) (moves []) ∷
-    asked (offer (1 ∷ 1 ∷ 2 ∷ []) (true ∷ true ∷ true ∷ []) (3 ∷ 3 ∷ 3 ∷ []) (1 ∷ 1 ∷ 2 ∷ [])) (refused 9 1) ∷ asked newId (gave 3) ∷
-    asked (lookup 18446744073709551615) (refused 8 0) ∷ asked (defragOf nan 4) (refused 14 0) ∷ asked release done ∷
-    asked (offer (1 ∷ 2 ∷ 3 ∷ []) (true ∷ true ∷ true ∷ []) (3 ∷ 3 ∷ 3 ∷ []) (1 ∷ 2 ∷ 3 ∷ [])) (placed (72057594037927937 ∷ 72057594037927938 ∷ 72057594037927939 ∷ [])) ∷
-    asked commit done ∷ asked (lookup 2) (gave 72057594037927938) ∷ asked commit (refused 12 0) ∷ asked (defragOf nan 4) (refused 14 0) ∷
-    asked (lookup 5) (refused 8 0) ∷ asked counters (countsFrom ((0, 3, 0) ∷ (1, 3, 0) ∷ []) 3 0 3 0) ∷ asked release done ∷
-    asked (offer (1 ∷ 2 ∷ 3 ∷ []) (false ∷ true ∷ true ∷ []) (0 ∷ 3 ∷ 3 ∷ []) (1 ∷ 2 ∷ 3 ∷ [])) (placed (0 ∷ 72057594037927936 ∷ 72057594037927940 ∷ [])) ∷
-    asked commit done ∷ asked release done ∷ asked (defragOf (fin false 1 (negsuc 148)) 4) (moves []) ∷ asked (lookup 2) (gave 72057594037927936) ∷ []
+    denied (offerOf (1 ∷ 1 ∷ 2 ∷ []) (true ∷ true ∷ true ∷ []) (3 ∷ 3 ∷ 3 ∷ []) (1 ∷ 1 ∷ 2 ∷ [])) 9 1 ∷ asked newId (gave 3) ∷
+    denied (ask (lookup 18446744073709551615)) 8 0 ∷ denied (defragOf nan 4) 14 0 ∷ asked release done ∷
+    asked (offerOf (1 ∷ 2 ∷ 3 ∷ []) (true ∷ true ∷ true ∷ []) (3 ∷ 3 ∷ 3 ∷ []) (1 ∷ 2 ∷ 3 ∷ []))
+    (placed (72057594037927937 ∷ 72057594037927938 ∷ 72057594037927939 ∷ [])) ∷
+    asked commit done ∷ asked (ask (lookup 2)) (gave 72057594037927938) ∷ denied commit 12 0 ∷ denied (defragOf nan 4) 14 0 ∷
+    denied (ask (lookup 5)) 8 0 ∷ asked (ask counters) (countsFrom ((0, 3, 0) ∷ (1, 3, 0) ∷ []) 3 0 3 0) ∷ asked release done ∷
+    asked (offerOf (1 ∷ 2 ∷ 3 ∷ []) (false ∷ true ∷ true ∷ []) (0 ∷ 3 ∷ 3 ∷ []) (1 ∷ 2 ∷ 3 ∷ [])) (placed (0 ∷ 72057594037927936 ∷ 72057594037927940 ∷ [])) ∷
+    asked commit done ∷ asked release done ∷ asked (defragOf (fin false 1 (negsuc 148)) 4) (moves []) ∷ asked (ask (lookup 2)) (gave 72057594037927936) ∷ []
 
 -- stores.txt, history 12: the first 21 calls after fresh
 unfoldable pub sample3 : List Asked
 sample3 =
-    asked (offer [] [] [] []) (placed []) ∷ asked abandon done ∷ asked newId (gave 1) ∷
-    asked (offer (1 ∷ []) (true ∷ []) (8388599 ∷ []) (1 ∷ [])) (placed (4035225266123964416 ∷ [])) ∷ asked commit done ∷
-    asked (offer (1 ∷ 1 ∷ []) (true ∷ true ∷ []) (8388599 ∷ 17179869173 ∷ []) (1 ∷ 1 ∷ [])) (refused 9 1) ∷ asked release done ∷ asked release done ∷
+    asked (offerOf [] [] [] []) (placed []) ∷ asked abandon done ∷ asked newId (gave 1) ∷
+    asked (offerOf (1 ∷ []) (true ∷ []) (8388599 ∷ []) (1 ∷ [])) (placed (4035225266123964416 ∷ [])) ∷ asked commit done ∷
+    denied (offerOf (1 ∷ 1 ∷ []) (true ∷ true ∷ []) (8388599 ∷ 17179869173 ∷ []) (1 ∷ 1 ∷ [])) 9 1 ∷ asked release done ∷ asked release done ∷
     asked newId (gave 2) ∷ asked newId (gave 3) ∷ asked newId (gave 4) ∷ asked (defragOf (fin false 11184811 (negsuc 24)) 4) (moves []) ∷
-    asked (rebuild (1 ∷ []) (4035225266123964416 ∷ [])) done ∷ asked newId (gave 2) ∷ asked newId (gave 3) ∷ asked release done ∷
-    asked (offer (2 ∷ []) (true ∷ []) (8388599 ∷ []) (2 ∷ [])) (placed (4035225266123964417 ∷ [])) ∷ asked commit done ∷
-    asked (offer (3 ∷ 1 ∷ 2 ∷ []) (false ∷ true ∷ true ∷ []) (0 ∷ 8388599 ∷ 8388599 ∷ []) (3 ∷ 1 ∷ 2 ∷ [])) (refused 10 55) ∷
-    asked (offer (2 ∷ 3 ∷ []) (true ∷ true ∷ []) (8388599 ∷ 8388599 ∷ []) (2 ∷ 3 ∷ [])) (refused 10 55) ∷
-    asked (lookup 18446744073709551615) (refused 8 0) ∷ []
+    asked (rebuildOf (1 ∷ []) (4035225266123964416 ∷ [])) done ∷ asked newId (gave 2) ∷ asked newId (gave 3) ∷ asked release done ∷
+    asked (offerOf (2 ∷ []) (true ∷ []) (8388599 ∷ []) (2 ∷ [])) (placed (4035225266123964417 ∷ [])) ∷ asked commit done ∷
+    denied (offerOf (3 ∷ 1 ∷ 2 ∷ []) (false ∷ true ∷ true ∷ []) (0 ∷ 8388599 ∷ 8388599 ∷ []) (3 ∷ 1 ∷ 2 ∷ [])) 10 55 ∷
+    denied (offerOf (2 ∷ 3 ∷ []) (true ∷ true ∷ []) (8388599 ∷ 8388599 ∷ []) (2 ∷ 3 ∷ [])) 10 55 ∷
+    denied (ask (lookup 18446744073709551615)) 8 0 ∷ []
 
 -- stores.txt, history 17: the first 25 calls after fresh
 unfoldable pub sample4 : List Asked
 sample4 =
-    asked release done ∷ asked release done ∷ asked (offer [] [] [] []) (placed []) ∷ asked commit done ∷ asked release done ∷
-    asked (offer [] [] [] []) (placed []) ∷ asked commit done ∷ asked (offer [] [] [] []) (placed []) ∷ asked commit done ∷
-    asked (rebuild (0 ∷ []) (72057594037927936 ∷ [])) (refused 8 0) ∷ asked (offer [] [] [] []) (placed []) ∷ asked commit done ∷
-    asked (offer [] [] [] []) (placed []) ∷ asked newId (refused 11 0) ∷ asked release (refused 11 0) ∷ asked (offer [] [] [] []) (refused 11 0) ∷
-    asked (defragOf (fin false 3 (negsuc 1)) 6) (refused 11 0) ∷ asked (truncation 0 80) (refused 11 0) ∷ asked (report 0 80) (refused 11 0) ∷
-    asked (lookup 1) (refused 8 0) ∷ asked commit done ∷ asked (lookup 4) (refused 8 0) ∷ asked release done ∷ asked (lookup 4) (refused 8 0) ∷
+    asked release done ∷ asked release done ∷ asked (offerOf [] [] [] []) (placed []) ∷ asked commit done ∷ asked release done ∷
+    asked (offerOf [] [] [] []) (placed []) ∷ asked commit done ∷ asked (offerOf [] [] [] []) (placed []) ∷ asked commit done ∷
+    denied (rebuildOf (0 ∷ []) (72057594037927936 ∷ [])) 8 0 ∷ asked (offerOf [] [] [] []) (placed []) ∷ asked commit done ∷
+    asked (offerOf [] [] [] []) (placed []) ∷ denied newId 11 0 ∷ denied release 11 0 ∷ denied (offerOf [] [] [] []) 11 0 ∷
+    denied (defragOf (fin false 3 (negsuc 1)) 6) 11 0 ∷ denied (truncation 0 80) 11 0 ∷ denied (report 0 80) 11 0 ∷
+    denied (ask (lookup 1)) 8 0 ∷ asked commit done ∷ denied (ask (lookup 4)) 8 0 ∷ asked release done ∷ denied (ask (lookup 4)) 8 0 ∷
     asked release done ∷ []
 
 -- stores.txt, history 22: the first 21 calls after fresh
 unfoldable pub sample5 : List Asked
 sample5 =
-    asked (rebuild [] []) done ∷ asked (offer [] [] [] []) (placed []) ∷ asked commit done ∷
-    asked (rebuild (1 ∷ []) (5692549928996306944 ∷ [])) (refused 3 0) ∷ asked newId (gave 1) ∷ asked newId (gave 2) ∷ asked newId (gave 3) ∷
+    asked (rebuildOf [] []) done ∷ asked (offerOf [] [] [] []) (placed []) ∷ asked commit done ∷
+    denied (rebuildOf (1 ∷ []) (5692549928996306944 ∷ [])) 3 0 ∷ asked newId (gave 1) ∷ asked newId (gave 2) ∷ asked newId (gave 3) ∷
     asked (defragOf (fin false 1 (pos 0)) 5) (moves []) ∷
-    asked (offer (2 ∷ []) (true ∷ []) (20474 ∷ []) (2 ∷ [])) (placed (2449958197289549824 ∷ [])) ∷ asked commit done ∷
-    asked (offer [] [] [] []) (placed []) ∷ asked commit done ∷ asked (lookup 6) (refused 8 0) ∷ asked newId (gave 4) ∷
-    asked (offer [] [] [] []) (placed []) ∷ asked newId (refused 11 0) ∷ asked release (refused 11 0) ∷ asked (offer [] [] [] []) (refused 11 0) ∷
-    asked (defragOf (fin false 3 (negsuc 1)) 5) (refused 11 0) ∷ asked (truncation 0 80) (refused 11 0) ∷ asked (report 0 80) (refused 11 0) ∷ []
+    asked (offerOf (2 ∷ []) (true ∷ []) (20474 ∷ []) (2 ∷ [])) (placed (2449958197289549824 ∷ [])) ∷ asked commit done ∷
+    asked (offerOf [] [] [] []) (placed []) ∷ asked commit done ∷ denied (ask (lookup 6)) 8 0 ∷ asked newId (gave 4) ∷
+    asked (offerOf [] [] [] []) (placed []) ∷ denied newId 11 0 ∷ denied release 11 0 ∷ denied (offerOf [] [] [] []) 11 0 ∷
+    denied (defragOf (fin false 3 (negsuc 1)) 5) 11 0 ∷ denied (truncation 0 80) 11 0 ∷ denied (report 0 80) 11 0 ∷ []
 
 -- stores.txt, history 36: the first 29 calls after fresh
 unfoldable pub sample6 : List Asked
 sample6 =
-    asked (truncation 1 86) keep ∷ asked (report 1 86) (refused 17 0) ∷ asked (truncation 1 86) keep ∷ asked (report 1 86) (refused 17 0) ∷
-    asked (defragOf (fin false 1 (negsuc 0)) 7) (moves []) ∷ asked (offer [] [] [] []) (placed []) ∷ asked commit done ∷
-    asked (offer [] [] [] []) (placed []) ∷ asked abandon done ∷ asked (rebuild [] []) done ∷
-    asked (offer (18446744073709551615 ∷ []) (true ∷ []) (3 ∷ []) (18446744073709551615 ∷ [])) (refused 8 0) ∷
-    asked (defragOf (fin false 1 (negsuc 0)) 7) (moves []) ∷ asked newId (gave 1) ∷ asked commit (refused 12 0) ∷
-    asked (defragOf nan 7) (refused 14 0) ∷ asked (offer (1 ∷ []) (true ∷ []) (3 ∷ []) (1 ∷ [])) (placed (72057594037927936 ∷ [])) ∷
-    asked commit done ∷ asked (truncation 78 0) (refused 3 0) ∷ asked (report 78 0) (refused 3 0) ∷ asked (truncation 78 86) (refused 3 0) ∷
-    asked (report 78 86) (refused 3 0) ∷ asked (offer (1 ∷ []) (true ∷ []) (3 ∷ []) (1 ∷ [])) (placed (72057594037927937 ∷ [])) ∷
-    asked newId (refused 11 0) ∷ asked release (refused 11 0) ∷ asked (offer [] [] [] []) (refused 11 0) ∷
-    asked (defragOf (fin false 3 (negsuc 1)) 7) (refused 11 0) ∷ asked (truncation 0 80) (refused 11 0) ∷ asked (report 0 80) (refused 11 0) ∷
-    asked (lookup 1) (gave 72057594037927936) ∷ []
+    asked (truncation 1 86) (truncated keep) ∷ denied (report 1 86) 17 0 ∷ asked (truncation 1 86) (truncated keep) ∷ denied (report 1 86) 17 0 ∷
+    asked (defragOf (fin false 1 (negsuc 0)) 7) (moves []) ∷ asked (offerOf [] [] [] []) (placed []) ∷ asked commit done ∷
+    asked (offerOf [] [] [] []) (placed []) ∷ asked abandon done ∷ asked (rebuildOf [] []) done ∷
+    denied (offerOf (18446744073709551615 ∷ []) (true ∷ []) (3 ∷ []) (18446744073709551615 ∷ [])) 8 0 ∷
+    asked (defragOf (fin false 1 (negsuc 0)) 7) (moves []) ∷ asked newId (gave 1) ∷ denied commit 12 0 ∷
+    denied (defragOf nan 7) 14 0 ∷ asked (offerOf (1 ∷ []) (true ∷ []) (3 ∷ []) (1 ∷ [])) (placed (72057594037927936 ∷ [])) ∷
+    asked commit done ∷ denied (truncation 78 0) 3 0 ∷ denied (report 78 0) 3 0 ∷ denied (truncation 78 86) 3 0 ∷
+    denied (report 78 86) 3 0 ∷ asked (offerOf (1 ∷ []) (true ∷ []) (3 ∷ []) (1 ∷ [])) (placed (72057594037927937 ∷ [])) ∷
+    denied newId 11 0 ∷ denied release 11 0 ∷ denied (offerOf [] [] [] []) 11 0 ∷
+    denied (defragOf (fin false 3 (negsuc 1)) 7) 11 0 ∷ denied (truncation 0 80) 11 0 ∷ denied (report 0 80) 11 0 ∷
+    asked (ask (lookup 1)) (gave 72057594037927936) ∷ []
 
 -- stores.txt, history 50: the first 29 calls after fresh
 unfoldable pub sample7 : List Asked
 sample7 =
-    asked release done ∷ asked newId (gave 1) ∷ asked (offer [] [] [] []) (placed []) ∷ asked commit done ∷
-    asked (offer (1 ∷ []) (true ∷ []) (3 ∷ []) (1 ∷ [])) (placed (72057594037927936 ∷ [])) ∷ asked commit done ∷ asked newId (gave 2) ∷
+    asked release done ∷ asked newId (gave 1) ∷ asked (offerOf [] [] [] []) (placed []) ∷ asked commit done ∷
+    asked (offerOf (1 ∷ []) (true ∷ []) (3 ∷ []) (1 ∷ [])) (placed (72057594037927936 ∷ [])) ∷ asked commit done ∷ asked newId (gave 2) ∷
     asked newId (gave 3) ∷
-    asked (offer (1 ∷ 3 ∷ 2 ∷ []) (false ∷ false ∷ true ∷ []) (0 ∷ 0 ∷ 3 ∷ []) (1 ∷ 3 ∷ 2 ∷ [])) (placed (0 ∷ 0 ∷ 72057594037927937 ∷ [])) ∷
-    asked abandon done ∷ asked newId (refused 10 0) ∷ asked release done ∷ asked release done ∷
-    asked (offer (1 ∷ 2 ∷ 3 ∷ []) (true ∷ true ∷ true ∷ []) (3 ∷ 3 ∷ 3 ∷ []) (1 ∷ 2 ∷ 3 ∷ [])) (placed (72057594037927937 ∷ 72057594037927938 ∷ 72057594037927939 ∷ [])) ∷
-    asked newId (refused 11 0) ∷ asked release (refused 11 0) ∷ asked (offer [] [] [] []) (refused 11 0) ∷
-    asked (defragOf (fin false 3 (negsuc 1)) 3) (refused 11 0) ∷ asked (truncation 0 80) (refused 11 0) ∷ asked (report 0 80) (refused 11 0) ∷
-    asked (lookup 1) (gave 72057594037927936) ∷ asked commit done ∷ asked release done ∷
-    asked counters (countsFrom ((0, 4, 0) ∷ (1, 5, 2) ∷ []) 4 0 5 2) ∷ asked counters (countsFrom ((0, 4, 0) ∷ (1, 5, 2) ∷ []) 4 0 5 2) ∷
-    asked (lookup 4) (refused 8 0) ∷ asked (lookup 3) (gave 72057594037927939) ∷ asked newId (refused 10 0) ∷
+    asked (offerOf (1 ∷ 3 ∷ 2 ∷ []) (false ∷ false ∷ true ∷ []) (0 ∷ 0 ∷ 3 ∷ []) (1 ∷ 3 ∷ 2 ∷ [])) (placed (0 ∷ 0 ∷ 72057594037927937 ∷ [])) ∷
+    asked abandon done ∷ denied newId 10 0 ∷ asked release done ∷ asked release done ∷
+    asked (offerOf (1 ∷ 2 ∷ 3 ∷ []) (true ∷ true ∷ true ∷ []) (3 ∷ 3 ∷ 3 ∷ []) (1 ∷ 2 ∷ 3 ∷ []))
+    (placed (72057594037927937 ∷ 72057594037927938 ∷ 72057594037927939 ∷ [])) ∷
+    denied newId 11 0 ∷ denied release 11 0 ∷ denied (offerOf [] [] [] []) 11 0 ∷
+    denied (defragOf (fin false 3 (negsuc 1)) 3) 11 0 ∷ denied (truncation 0 80) 11 0 ∷ denied (report 0 80) 11 0 ∷
+    asked (ask (lookup 1)) (gave 72057594037927936) ∷ asked commit done ∷ asked release done ∷
+    asked (ask counters) (countsFrom ((0, 4, 0) ∷ (1, 5, 2) ∷ []) 4 0 5 2) ∷ asked (ask counters) (countsFrom ((0, 4, 0) ∷ (1, 5, 2) ∷ []) 4 0 5 2) ∷
+    denied (ask (lookup 4)) 8 0 ∷ asked (ask (lookup 3)) (gave 72057594037927939) ∷ denied newId 10 0 ∷
     asked (defragOf (fin false 1 (pos 0)) 3) (moves ((3, 72057594037927939) ∷ [])) ∷ []
 
 -- files.txt, history 5: the first 43 calls after fresh
 unfoldable pub sample8 : List Asked
 sample8 =
-    asked (offer [] [] [] []) (placed []) ∷ asked commit done ∷ asked newId (gave 1) ∷ asked newId (gave 2) ∷ asked newId (gave 3) ∷
-    asked (offer (1 ∷ 2 ∷ 3 ∷ []) (true ∷ true ∷ true ∷ []) (3 ∷ 662 ∷ 3 ∷ []) (1 ∷ 2 ∷ 3 ∷ [])) (placed (72057594037927936 ∷ 1080863910568919040 ∷ 72057594037927937 ∷ [])) ∷
-    asked commit done ∷ asked (truncation 0 80) keep ∷ asked (truncation 14 80) keep ∷
-    asked counters (countsFrom ((0, 4, 0) ∷ (1, 2, 0) ∷ (15, 1, 0) ∷ []) 4 0 3 0) ∷ asked (defragOf (fin false 0 (pos 0)) 6) (refused 14 0) ∷
-    asked newId (gave 4) ∷ asked newId (gave 5) ∷ asked counters (countsFrom ((0, 6, 0) ∷ (1, 2, 0) ∷ (15, 1, 0) ∷ []) 6 0 3 0) ∷
-    asked (lookup 7) (refused 8 0) ∷ asked (defragOf (fin false 1 (negsuc 148)) 6) (moves []) ∷ asked newId (gave 6) ∷
-    asked (lookup 18446744073709551615) (refused 8 0) ∷ asked (defragOf (fin true 1 (negsuc 0)) 6) (refused 14 0) ∷
-    asked (offer (0 ∷ 3 ∷ []) (true ∷ true ∷ []) (3 ∷ 106 ∷ []) (0 ∷ 3 ∷ [])) (refused 8 0) ∷
-    asked counters (countsFrom ((0, 7, 0) ∷ (1, 2, 0) ∷ (15, 1, 0) ∷ []) 7 0 3 0) ∷
-    asked (offer (2 ∷ 4 ∷ 6 ∷ []) (false ∷ false ∷ false ∷ []) (0 ∷ 0 ∷ 0 ∷ []) (2 ∷ 4 ∷ 6 ∷ [])) (placed (0 ∷ 0 ∷ 0 ∷ [])) ∷ asked commit done ∷
-    asked (truncation 0 80) keep ∷ asked (truncation 14 80) keep ∷
-    asked (offer (1 ∷ []) (true ∷ []) (662 ∷ []) (1 ∷ [])) (placed (1080863910568919041 ∷ [])) ∷ asked commit done ∷ asked (truncation 0 80) keep ∷
-    asked (truncation 14 80) keep ∷
-    asked (offer (1 ∷ 3 ∷ 5 ∷ []) (false ∷ true ∷ true ∷ []) (0 ∷ 662 ∷ 106 ∷ []) (1 ∷ 3 ∷ 5 ∷ [])) (placed (0 ∷ 1080863910568919042 ∷ 288230376151711744 ∷ [])) ∷
-    asked commit done ∷ asked (truncation 0 80) keep ∷ asked (truncation 3 80) keep ∷ asked (truncation 14 80) keep ∷ asked release done ∷
-    asked counters (countsFrom ((0, 7, 4) ∷ (1, 2, 2) ∷ (4, 1, 0) ∷ (15, 3, 2) ∷ []) 7 4 6 4) ∷ asked (defragOf (inf false) 6) (refused 14 0) ∷
-    asked (lookup 0) (refused 8 0) ∷ asked release done ∷
-    asked (offer (5 ∷ 3 ∷ []) (false ∷ false ∷ []) (0 ∷ 0 ∷ []) (5 ∷ 3 ∷ [])) (placed (0 ∷ 0 ∷ [])) ∷ asked commit done ∷
-    asked (truncation 0 80) (cut 64 0) ∷ asked (report 0 80) done ∷ []
+    asked (offerOf [] [] [] []) (placed []) ∷ asked commit done ∷ asked newId (gave 1) ∷ asked newId (gave 2) ∷ asked newId (gave 3) ∷
+    asked (offerOf (1 ∷ 2 ∷ 3 ∷ []) (true ∷ true ∷ true ∷ []) (3 ∷ 662 ∷ 3 ∷ []) (1 ∷ 2 ∷ 3 ∷ []))
+    (placed (72057594037927936 ∷ 1080863910568919040 ∷ 72057594037927937 ∷ [])) ∷
+    asked commit done ∷ asked (truncation 0 80) (truncated keep) ∷ asked (truncation 14 80) (truncated keep) ∷
+    asked (ask counters) (countsFrom ((0, 4, 0) ∷ (1, 2, 0) ∷ (15, 1, 0) ∷ []) 4 0 3 0) ∷ denied (defragOf (fin false 0 (pos 0)) 6) 14 0 ∷
+    asked newId (gave 4) ∷ asked newId (gave 5) ∷ asked (ask counters) (countsFrom ((0, 6, 0) ∷ (1, 2, 0) ∷ (15, 1, 0) ∷ []) 6 0 3 0) ∷
+    denied (ask (lookup 7)) 8 0 ∷ asked (defragOf (fin false 1 (negsuc 148)) 6) (moves []) ∷ asked newId (gave 6) ∷
+    denied (ask (lookup 18446744073709551615)) 8 0 ∷ denied (defragOf (fin true 1 (negsuc 0)) 6) 14 0 ∷
+    denied (offerOf (0 ∷ 3 ∷ []) (true ∷ true ∷ []) (3 ∷ 106 ∷ []) (0 ∷ 3 ∷ [])) 8 0 ∷
+    asked (ask counters) (countsFrom ((0, 7, 0) ∷ (1, 2, 0) ∷ (15, 1, 0) ∷ []) 7 0 3 0) ∷
+    asked (offerOf (2 ∷ 4 ∷ 6 ∷ []) (false ∷ false ∷ false ∷ []) (0 ∷ 0 ∷ 0 ∷ []) (2 ∷ 4 ∷ 6 ∷ [])) (placed (0 ∷ 0 ∷ 0 ∷ [])) ∷ asked commit done ∷
+    asked (truncation 0 80) (truncated keep) ∷ asked (truncation 14 80) (truncated keep) ∷
+    asked (offerOf (1 ∷ []) (true ∷ []) (662 ∷ []) (1 ∷ [])) (placed (1080863910568919041 ∷ [])) ∷ asked commit done ∷
+    asked (truncation 0 80) (truncated keep) ∷
+    asked (truncation 14 80) (truncated keep) ∷
+    asked (offerOf (1 ∷ 3 ∷ 5 ∷ []) (false ∷ true ∷ true ∷ []) (0 ∷ 662 ∷ 106 ∷ []) (1 ∷ 3 ∷ 5 ∷ []))
+    (placed (0 ∷ 1080863910568919042 ∷ 288230376151711744 ∷ [])) ∷
+    asked commit done ∷ asked (truncation 0 80) (truncated keep) ∷ asked (truncation 3 80) (truncated keep) ∷ asked (truncation 14 80) (truncated keep) ∷
+    asked release done ∷
+    asked (ask counters) (countsFrom ((0, 7, 4) ∷ (1, 2, 2) ∷ (4, 1, 0) ∷ (15, 3, 2) ∷ []) 7 4 6 4) ∷ denied (defragOf (inf false) 6) 14 0 ∷
+    denied (ask (lookup 0)) 8 0 ∷ asked release done ∷
+    asked (offerOf (5 ∷ 3 ∷ []) (false ∷ false ∷ []) (0 ∷ 0 ∷ []) (5 ∷ 3 ∷ [])) (placed (0 ∷ 0 ∷ [])) ∷ asked commit done ∷
+    asked (truncation 0 80) (truncated (cut 64 0)) ∷ asked (report 0 80) done ∷ []
 
 unfoldable pub sampleAgrees : Bool
 sampleAgrees =
