@@ -9,24 +9,31 @@ use lib.Dec.{ltb, eqb}
 use lib.ListN.{getD}
 use lib.Seq.{ext-getD}
 use borrow.Author.Tests.{lt-ltb, eqb-false, le-ltb}
-use Rattle.refusal.specs.Refusals.{tablesDisagree, wrongShape, noBatch}
-use Rattle.refusal.proofs.Tests.{clash}
+use Rattle.refusal.specs.Refusals.{tablesDisagree, noBatch}
+use Rattle.refusal.proofs.Tests.{clash, all, contradiction}
 use Rattle.address.specs.Address.{isLocation}
 use Rattle.id_allocator.specs.Written.{opened}
 use Rattle.fragmentation.proofs.LawsCut.{between}
-use Rattle.model.specs.Batches.{abandonRows, badRow, afterAbandon, afterOffer, takenBy, updatesOf}
-use Rattle.model.specs.Step.{refusal, after, effect, next, unless, shape, noneOpen, state}
-use Rattle.model.specs.Store.{Store, Row, abandon, Update, offer, Call, newId, release, commit, fresh, rebuild, lookup, counters, defrag, truncation, report}
-use Rattle.model.specs.Tables.{elem, slotPlace, writeAll, isOpen, kept, locationsOf, pairs}
+use Rattle.model.specs.Batches.{abandonRows, badRow, afterAbandon, afterOffer, takenBy, updatesIn}
+use Rattle.model.specs.Lending.{everyTable}
+use Rattle.model.specs.Step.{refusalOf, refusal, after, effect, next, unless, state}
+use Rattle.model.specs.Store.{Store, Row, abandon, Update, offer, Call, newId, release, commit, fresh, rebuild, ask, truncation, report}
+use Rattle.model.specs.Tables.{mostOpened, slotPlace, writeAll, isOpen, kept, locationsOf, pairs}
+use Rattle.list_parts.specs.Lists.{elem}
+use Rattle.model.specs.Tests.{noneOpen}
 use Rattle.model.specs.Verdict.{ok, _⨾_, test, Verdict, refuse}
 use Rattle.model.proofs.Batches.{length-place}
 use Rattle.model.proofs.Answered.{next-granted, next-refused}
-use Rattle.model.proofs.Granted.{offer-granted}
-use Rattle.model.proofs.Tables.{elem-tail, elem-head, elem-cases, contradiction, Spot, length-writeAll, isLocation-nz, writeAll-same, writeAll-other, nz-lt, one-nz, all}
+use Rattle.model.proofs.Granted.{granted-rest, offer-granted}
+use Rattle.model.proofs.Sizes.{Sizes, sized-sizes, sized-shape}
+use Rattle.model.proofs.Lists.{nz-lt, one-nz}
+use Rattle.list_parts.proofs.Lists.{elem-tail, elem-head, elem-cases}
+use Rattle.model.proofs.Locations.{isLocation-nz}
+use Rattle.model.proofs.Spots.{Spot}
+use Rattle.model.proofs.Writes.{length-writeAll, writeAll-same, writeAll-other}
 use Rattle.model.proofs.Verdicts.{test-ok, first-ok, then-ok}
 use Rattle.histories.specs.Invariant.{KeptRows, Inv}
 use Rattle.histories.specs.Statements.{StaysOpen, grantedOf, keepIf, AbandonAgrees, answers}
-use Rattle.histories.proofs.Kept.{Sizes, sizes-of}
 use Rattle.histories.proofs.KeptBatches.{kept-offer, locs-pairs, place-free}
 use Rattle.histories.proofs.Reached.{reached, keep-next}
 use Rattle.histories.proofs.Same.{Same}
@@ -73,7 +80,7 @@ undone cap ls t h = ext-getD 0 _ _ (length-writeAll cap ls 0 (writeAll cap ls 1 
 
 -- ---- a kept batch of the invariant is not refused
 
-rows-fine : (s : Store) → Sizes s → (i : ℕ) (ks : List Row) → KeptRows (s .slots) (s .idMarks) (s .locations) (s .slotMarks) ks → abandonRows s i ks ≡ ok
+rows-fine : (s : Store) → Sizes everyTable s → (i : ℕ) (ks : List Row) → KeptRows (s .slots) (s .idMarks) (s .locations) (s .slotMarks) ks → abandonRows s i ks ≡ ok
 unfolding _⨾_ test
 rows-fine s z i [] k = refl
 rows-fine s z i (r ∷ rs) k = λ j. test (fine-row j) tablesDisagree i ⨾ rows-fine s z (suc i) rs (k .1) j
@@ -89,14 +96,11 @@ rows-fine s z i (r ∷ rs) k = λ j. test (fine-row j) tablesDisagree i ⨾ rows
     fine-row = ap not (all (all (lt-ltb 0 (r .0) (k .0 .pos)) range) (loc (eqb (r .1) 0) refl))
 
 pub abandon-granted : (s : Store) → Inv s → isOpen s ≡ true → refusal s abandon ≡ ok
-unfolding refusal _⨾_ test
+unfolding refusal refusalOf _⨾_ test
 abandon-granted s v o = λ j.
-    test (not (all (z .caps) (all (all (z .slot-marks-fit) (z .batch-fits)) (z .tallies-fit)) j)) wrongShape 0 ⨾
-    (test (not (o j)) noBatch 0 ⨾ test (le-ltb 257 (s .batch .opened) (v .few) j) tablesDisagree 0) ⨾
-    rows-fine s z 0 (kept s) (v .good .keeps) j
-  where
-    z : Sizes s
-    z = sizes-of s (v .is-sized)
+    sized-shape s (v .is-sized) abandon j ⨾
+    (test (not (o j)) noBatch 0 ⨾ test (le-ltb mostOpened (s .batch .opened) (v .few) j) tablesDisagree 0) ⨾
+    rows-fine s (sized-sizes s (v .is-sized)) 0 (kept s) (v .good .keeps) j
 
 -- ---- offered and abandoned
 
@@ -125,24 +129,22 @@ idle s c f = go (refusal s c)
     go (refuse n i) = refl
 
 -- a call that is refused with 11 while a batch is open
-not-open : (s : Store) (b : Bool) (v : Verdict) → (shape s b ⨾ noneOpen s ⨾ v) ≡ ok → isOpen s ≡ false
-not-open s b v e = test-ok _ _ _ (first-ok _ _ (then-ok _ _ e))
+not-open : (s : Store) (v : Verdict) → (noneOpen s ⨾ v) ≡ ok → isOpen s ≡ false
+not-open s v e = test-ok _ _ _ (first-ok _ _ e)
 
 -- a granted call that leaves the batch open changes no store
 harmless : (s : Store) (c : Call) → isOpen s ≡ true → refusal s c ≡ ok → isOpen (effect s c) ≡ true → (x : Store) → next x c ≡ x
-unfolding refusal effect
-harmless s newId o e t x = contradiction o (not-open s _ _ e)
-harmless s release o e t x = contradiction o (test-ok _ _ _ (then-ok _ _ e))
-harmless s (offer is ss ns out) o e t x = contradiction o (not-open s _ _ e)
+unfolding refusalOf effect
+harmless s newId o e t x = contradiction o (not-open s _ (granted-rest s newId e))
+harmless s release o e t x = contradiction o (test-ok _ _ _ (granted-rest s release e))
+harmless s (offer b) o e t x = contradiction o (not-open s _ (then-ok _ _ (granted-rest s (offer b) e)))
 harmless s commit o e t x = clash (sym t)
 harmless s abandon o e t x = clash (sym t)
 harmless s fresh o e t x = clash (sym t)
-harmless s (rebuild is ls) o e t x = clash (sym t)
-harmless s (lookup i) o e t x = idle x (lookup i) refl
-harmless s counters o e t x = idle x counters refl
-harmless s (defrag r is ls) o e t x = contradiction o (not-open s _ _ e)
-harmless s (truncation k d) o e t x = contradiction o (not-open s _ _ e)
-harmless s (report k d) o e t x = contradiction o (not-open s _ _ (first-ok _ _ e))
+harmless s (rebuild rs) o e t x = clash (sym t)
+harmless s (ask q) o e t x = idle x (ask q) refl
+harmless s (truncation k d) o e t x = contradiction o (not-open s _ (granted-rest s (truncation k d) e))
+harmless s (report k d) o e t x = contradiction o (not-open s _ (first-ok _ _ (granted-rest s (report k d) e)))
 
 open-before : (s : Store) (cs : List Call) → StaysOpen s cs → isOpen s ≡ true
 open-before s [] t = t
@@ -162,15 +164,15 @@ between-same s (c ∷ cs) t = go (refusal s c) refl (between-same (next s c) cs 
 
 pub abandon-agrees : AbandonAgrees
 unfolding effect
-abandon-agrees n m h is ss ns out between later c e t =
+abandon-agrees n m h o between later c e t =
     let s = state n m h in
     let v : Inv s = reached n m c h in
-    let s′ = next s (offer is ss ns out) in
-    let v′ : Inv s′ = keep-next s (offer is ss ns out) v in
+    let s′ = next s (offer o) in
+    let v′ : Inv s′ = keep-next s (offer o) v in
     let b = between-same s′ between t in
-    let q : next s′ abandon ≡ afterAbandon (afterOffer s (updatesOf is ss ns)) =
-    next-granted s′ abandon (abandon-granted s′ v′ (open-before s′ between t)) ∙ ap afterAbandon (next-granted s (offer is ss ns out) e) in
-    let same : Same (next s′ abandon) s = subst (λ x. Same x s) (sym q) (abandoned-same s (updatesOf is ss ns) v (offer-granted s is ss ns out e .shut)) in
+    let q : next s′ abandon ≡ afterAbandon (afterOffer s (updatesIn o)) =
+    next-granted s′ abandon (abandon-granted s′ v′ (open-before s′ between t)) ∙ ap afterAbandon (next-granted s (offer o) e) in
+    let same : Same (next s′ abandon) s = subst (λ x. Same x s) (sym q) (abandoned-same s (updatesIn o) v (offer-granted s o e .shut)) in
     ap (λ x. answers (next x abandon) later) (b .0)
     ∙ answers-same (next s′ abandon) s same (keep-next s′ abandon v′) v later
     ∙ ap (λ x. answers x later) (sym (b .1 s))

@@ -9,11 +9,15 @@ use native.Mathlib.Decide.{ℕ-discrete}
 use native.Mathlib.Omega.{arith}
 use lib.ListN.{getD, length, set, length-set}
 use lib.Seq.{getD-set-other, getD-set-same}
+use Rattle.list_parts.specs.Lists.{elem}
+use Rattle.list_parts.proofs.Lists.{elem-head, elem-tail, elem-cases}
 use Rattle.address.specs.Address.{isLocation}
 use Rattle.model.specs.Store.{Row}
-use Rattle.model.specs.Tables.{slotPlace, write, elem, idsOf, locationsOf}
+use Rattle.model.specs.Tables.{slotPlace, write, idsOf, locationsOf}
 use Rattle.model.specs.Truncation.{keeps}
-use Rattle.model.proofs.Tables.{nz-lt, one-nz, isLocation-nz, slotPlace-inj, write-same, write-other, elem-head, elem-tail, length-write, set-each, write-each, set-cases, elem-cases}
+use Rattle.model.proofs.Lists.{nz-lt, one-nz, set-each, set-cases}
+use Rattle.model.proofs.Locations.{isLocation-nz, slotPlace-inj}
+use Rattle.model.proofs.Writes.{write-same, write-other, length-write, write-each}
 use Rattle.histories.specs.Invariant.{Good, KeptRows, Located, Reserved}
 
 -- ---- one kept update is applied

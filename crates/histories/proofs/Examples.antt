@@ -14,11 +14,14 @@ use Rattle.sizes.specs.Sizes.{slabFor, firstFit, slabSizes, fieldWidth}
 use Rattle.address.specs.Address.{badSlots}
 use Rattle.marks.specs.Marks.{isHeld}
 use Rattle.model.specs.Batches.{room}
+use Rattle.model.specs.Cases.{stores, frees}
 use Rattle.model.specs.Defrag.{movesFrom}
 use Rattle.model.specs.Ids.{bumpPending}
-use Rattle.model.specs.Step.{state, answer, next, refusal, grant, effect}
-use Rattle.model.specs.Store.{Call, newId, offer, commit, release, lookup}
-use Rattle.model.specs.Tables.{badIds, heldId, locationOf, inIds, sized}
+use Rattle.model.specs.Lending.{lentFit, sized}
+use Rattle.model.specs.Questions.{askRefusal, reply}
+use Rattle.model.specs.Step.{state, answer, next, refusalOf, refusal, grant, effect}
+use Rattle.model.specs.Store.{lookup, Call, newId, offer, commit, release, ask}
+use Rattle.model.specs.Tables.{badIds, heldId, locationOf, inIds}
 use Rattle.model.specs.Verdict.{_⨾_, test}
 use Rattle.histories.specs.Statements.{AtRest, RebuildMet, AbandonMet}
 use Rattle.histories.proofs.LiveRows.{liveRows, live-rows}
@@ -26,8 +29,7 @@ use Rattle.histories.proofs.Reached.{reached}
 
 abbrev calls : List Call
 calls =
-    newId ∷ newId ∷ newId ∷ offer (1 ∷ 2 ∷ 3 ∷ []) (true ∷ true ∷ true ∷ []) (3 ∷ 3 ∷ 3 ∷ []) (0 ∷ 0 ∷ 0 ∷ []) ∷ commit ∷
-    offer (2 ∷ []) (false ∷ []) (0 ∷ []) (0 ∷ []) ∷ commit ∷ release ∷ []
+    newId ∷ newId ∷ newId ∷ stores (1 ∷ 2 ∷ 3 ∷ []) ∷ commit ∷ frees (2 ∷ []) ∷ commit ∷ release ∷ []
 
 abbrev without2 : List ℕ → Bool
 without2 [] = true
@@ -56,7 +58,7 @@ is-stored (m ∷ im) (l ∷ lo) e zero h =
 is-stored (m ∷ im) (l ∷ lo) e (suc i) h = is-stored im lo (and-true (not (isHeld m) || not (eqb l 0)) (allStored im lo) e .1) i h
 
 at-rest : AtRest (state 9 4 calls)
-unfolding _⨾_ test answer next refusal grant effect badIds badSlots slabFor firstFit slabSizes fieldWidth room bumpPending movesFrom
+unfolding _⨾_ test answer next refusal refusalOf askRefusal reply lentFit grant effect badIds badSlots slabFor firstFit slabSizes fieldWidth room bumpPending movesFrom
 at-rest = record {
   closed = refl;
   no-id = no-2 (state 9 4 calls .idMarks) refl;
@@ -70,9 +72,9 @@ at-rest = record {
         (and-true (inIds (state 9 4 calls) (suc i)) _ h .1)
 
 pub rebuild-met : RebuildMet
-unfolding sized _⨾_ test answer next refusal grant effect badIds badSlots slabFor firstFit slabSizes fieldWidth room bumpPending movesFrom
+unfolding sized _⨾_ test answer next refusal refusalOf askRefusal reply lentFit grant effect badIds badSlots slabFor firstFit slabSizes fieldWidth room bumpPending movesFrom
 rebuild-met = (calls, liveRows (state 9 4 calls), at-rest, live-rows (state 9 4 calls) (reached 9 4 refl calls) at-rest, refl, refl)
 
 pub abandon-met : AbandonMet
-unfolding _⨾_ test answer next refusal grant effect badIds badSlots slabFor firstFit slabSizes fieldWidth room bumpPending movesFrom
-abandon-met = (calls, 1 ∷ [], true ∷ [], 60 ∷ [], 0 ∷ [], lookup 3 ∷ newId ∷ [], refl, (refl, (refl, refl)), refl, refl)
+unfolding _⨾_ test answer next refusal refusalOf askRefusal reply lentFit grant effect badIds badSlots slabFor firstFit slabSizes fieldWidth room bumpPending movesFrom
+abandon-met = (calls, record { ids = 1 ∷ []; stores = true ∷ []; lengths = 60 ∷ []; placed = 0 ∷ [] }, ask (lookup 3) ∷ newId ∷ [], refl, (refl, (refl, refl)), refl, refl)

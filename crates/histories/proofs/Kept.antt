@@ -1,6 +1,6 @@
 -- New id, release and commit keep the invariant. Assumes nothing.
 use mathlib.Core.Path.{_≡_, _∙_, sym, refl}
-use mathlib.Core.Bool.{_&&_, true, Bool, cond, false}
+use mathlib.Core.Bool.{_&&_, Bool, cond, true, false}
 use mathlib.Core.List.{List, _∷_, [], map}
 use Prim.Native.Nat.{ℕ, _*_, _≤_, suc, zero, _<_}
 use native.Mathlib.Nat.{suc-ne-zero}
@@ -8,18 +8,19 @@ use native.Mathlib.Omega.{arith}
 use lib.Dec.{eqb}
 use lib.ListN.{length, getD, length-set, set, List·getD-map, length-map}
 use lib.Seq.{getD-set-other}
-use borrow.Author.Tests.{eqb-true}
-use Rattle.refusal.proofs.Tests.{and-true}
+use Rattle.list_parts.specs.Parts.{part}
+use Rattle.list_parts.proofs.Parts.{length-part}
 use Rattle.address.specs.Address.{slabs}
 use Rattle.marks.specs.Marks.{lastTaken, tipOf, hold, letGo, isPending}
 use Rattle.marks.proofs.LawsCount.{lastTaken-le}
 use Rattle.model.specs.Batches.{applyRow, applyRows, afterCommit}
 use Rattle.model.specs.Ids.{afterNewId, nextId, bumpPending, afterRelease}
 use Rattle.model.specs.Store.{Store, Row}
-use Rattle.model.specs.Tables.{slotPlace, kept, sized, capacities, tablesFit, idMarksFit, locationsFit, slotMarksFit, ownersFit, batchFits, talliesFit, slabTip, part, locationOf}
+use Rattle.model.specs.Tables.{slotPlace, kept, mostUpdates, allocators, capacities, slabTip, locationOf}
+use Rattle.model.specs.Lending.{lentFit, sized}
 use Rattle.model.specs.Truncation.{keeps}
-use Rattle.model.proofs.Granted.{capacities-range, tabled}
-use Rattle.model.proofs.Tables.{length-part, length-bump, set-each, set-keeps, length-write}
+use Rattle.model.proofs.Lists.{set-each, set-keeps}
+use Rattle.model.proofs.Writes.{length-bump, length-write}
 use Rattle.histories.specs.Invariant.{KeptRows, Good, Inv}
 use Rattle.histories.proofs.Applied.{apply-free, apply-put}
 
@@ -33,65 +34,12 @@ lengths s =
     length (s .tallies .granted) ∷ length (s .tallies .freed) ∷ length (s .tallies .used) ∷ length (s .tallies .high) ∷ []
 
 pub sized-same : (s t : Store) → s .ids ≡ t .ids → s .slots ≡ t .slots → lengths s ≡ lengths t → sized s ≡ sized t
-unfolding sized
+unfolding sized lentFit
 sized-same s t p q e = λ k.
     capacities (p k) (q k) &&
     (eqb (getD (e k) 0 0) (p k) && eqb (getD (e k) 1 0) (p k) && eqb (getD (e k) 2 0) (slabs * q k) && eqb (getD (e k) 3 0) (slabs * q k) &&
-    (eqb (getD (e k) 4 0) 256 && eqb (getD (e k) 5 0) 256) &&
-    (eqb (getD (e k) 6 0) 79 && eqb (getD (e k) 7 0) 79 && eqb (getD (e k) 8 0) 79 && eqb (getD (e k) 9 0) 78))
-
-pub record Sizes (s : Store) : Type 0 where
-  pub ids-low : 2 ≤ s .ids
-  pub slots-low : 1 ≤ s .slots
-  pub slots-high : s .slots ≤ 65536
-  pub id-marks : length (s .idMarks) ≡ s .ids
-  pub locations : length (s .locations) ≡ s .ids
-  pub slot-marks : length (s .slotMarks) ≡ slabs * s .slots
-  pub owning : length (s .owners) ≡ slabs * s .slots
-  pub kept-ids : length (s .batch .keptIds) ≡ 256
-  pub kept-locs : length (s .batch .keptLocations) ≡ 256
-  pub granted-rows : length (s .tallies .granted) ≡ 79
-  pub freed-rows : length (s .tallies .freed) ≡ 79
-  pub caps : capacities (s .ids) (s .slots) ≡ true
-  pub tables-fit : tablesFit s ≡ true
-  pub id-marks-fit : idMarksFit s ≡ true
-  pub locs-fit : locationsFit s ≡ true
-  pub slot-marks-fit : slotMarksFit s ≡ true
-  pub owners-fit : ownersFit s ≡ true
-  pub batch-fits : batchFits s ≡ true
-  pub tallies-fit : talliesFit s ≡ true
-
-pub sizes-of : (s : Store) → sized s ≡ true → Sizes s
-unfolding sized
-sizes-of s e =
-    let a = and-true (capacities (s .ids) (s .slots)) (tablesFit s) e in
-    let c = capacities-range (s .ids) (s .slots) (a .0) in
-    let t = tabled s (a .1) in
-    let k = and-true _ _ (t .batch) in
-    let h = and-true _ _ (t .tallies) in
-    let u = and-true _ _ (h .0) in
-    let g = and-true _ _ (u .0) in
-    record {
-      ids-low = c .0;
-      slots-low = c .1;
-      slots-high = c .2;
-      id-marks = eqb-true _ _ (t .id-marks);
-      locations = eqb-true _ _ (t .locations);
-      slot-marks = eqb-true _ _ (t .slot-marks);
-      owning = eqb-true _ _ (t .owners);
-      kept-ids = eqb-true _ _ (k .0);
-      kept-locs = eqb-true _ _ (k .1);
-      granted-rows = eqb-true _ _ (g .0);
-      freed-rows = eqb-true _ _ (g .1);
-      caps = a .0;
-      tables-fit = a .1;
-      id-marks-fit = t .id-marks;
-      locs-fit = t .locations;
-      slot-marks-fit = t .slot-marks;
-      owners-fit = t .owners;
-      batch-fits = t .batch;
-      tallies-fit = t .tallies;
-    }
+    (eqb (getD (e k) 4 0) mostUpdates && eqb (getD (e k) 5 0) mostUpdates) &&
+    (eqb (getD (e k) 6 0) allocators && eqb (getD (e k) 7 0) allocators && eqb (getD (e k) 8 0) allocators && eqb (getD (e k) 9 0) slabs))
 
 -- ---- tips
 

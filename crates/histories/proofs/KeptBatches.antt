@@ -10,20 +10,27 @@ use lib.Dec.{eqb, ltb}
 use lib.ListN.{getD, length, drop, length-append, length-drop, length-map}
 use borrow.Author.Tests.{ne-eqb, not-false, not-true, eqb-false, ltb-true}
 use Rattle.refusal.proofs.Tests.{clash, and-true, or-false}
-use Rattle.address.specs.Address.{slabs, isLocation}
+use Rattle.list_parts.specs.Lists.{elem}
+use Rattle.list_parts.proofs.Lists.{elem-cases, elem-tail, elem-head}
+use Rattle.address.specs.Address.{isLocation, slabs}
 use Rattle.marks.specs.Marks.{isHeld}
 use Rattle.fragmentation.proofs.LawsCut.{one}
 use Rattle.model.specs.Batches.{place, spotFor, idOf, updates, afterOffer, takenBy, afterAbandon}
 use Rattle.model.specs.Store.{Update, Store, Row}
-use Rattle.model.specs.Tables.{write, slotPlace, elem, heldId, inIds, pairs, idsOf, locationsOf, kept, writeAll, locationOf}
+use Rattle.model.specs.Lending.{everyTable}
+use Rattle.model.specs.Tables.{write, slotPlace, mostUpdates, heldId, inIds, pairs, idsOf, locationsOf, kept, writeAll, locationOf}
 use Rattle.model.specs.Truncation.{keeps}
 use Rattle.model.specs.Verdict.{ok}
 use Rattle.model.proofs.Batches.{spotFor-is, length-place, length-bumpEach, length-useEach}
-use Rattle.model.proofs.Tables.{write-cases, Spot, length-write, elem-cases, write-same, elem-tail, elem-head, length-writeAll, writeAll-each, writeAll-keeps, writeAll-same, writeAll-other, slotPlace-inj, isLocation-nz, writeAll-cases, nz-lt, one-nz}
+use Rattle.model.proofs.Sizes.{Sizes, sized-sizes}
+use Rattle.model.proofs.Lists.{nz-lt, one-nz}
+use Rattle.model.proofs.Locations.{slotPlace-inj, isLocation-nz}
+use Rattle.model.proofs.Spots.{Spot}
+use Rattle.model.proofs.Writes.{write-cases, length-write, write-same, length-writeAll, writeAll-each, writeAll-keeps, writeAll-same, writeAll-other, writeAll-cases}
 use Rattle.model.proofs.Verdicts.{then-ok, test-ok, first-ok}
 use Rattle.histories.specs.Invariant.{Reserved, KeptRows, Inv}
 use Rattle.histories.specs.Statements.{seen}
-use Rattle.histories.proofs.Kept.{sized-same, Sizes, sizes-of, GoodS}
+use Rattle.histories.proofs.Kept.{sized-same, GoodS}
 
 -- ---- placement
 
@@ -158,7 +165,7 @@ offered s sm t (u ∷ us) c len m f h =
 length-patch : (n : ℕ) (a t : List ℕ) → length a ≡ n → n ≤ length t → length (a ++ drop n t) ≡ length t
 length-patch n a t e h = simp (length-append, length-drop) (omega arith)
 
-pub keep-offer : (s : Store) (us : List Update) → Inv s → s .batch .opened ≡ 0 → length us ≤ 256 → updates s [] 0 us ≡ ok → Inv (afterOffer s us)
+pub keep-offer : (s : Store) (us : List Update) → Inv s → s .batch .opened ≡ 0 → length us ≤ mostUpdates → updates s [] 0 us ≡ ok → Inv (afterOffer s us)
 keep-offer s us v cl few u = record {
   is-sized = sized-same (afterOffer s us) s refl refl
       (simp (
@@ -166,7 +173,7 @@ keep-offer s us v cl few u = record {
         length-bumpEach,
         length-useEach,
         length-patch (length us) (map idOf us) (s .batch .keptIds) (length-map us idOf) (rw (z .kept-ids) few),
-        length-patch (length us) ls (s .batch .keptLocations) len (rw (z .kept-locs) few),
+        length-patch (length us) ls (s .batch .keptLocations) len (rw (z .kept-locations) few),
       )) ∙ v .is-sized;
   few = omega arith;
   tops = v .tops;
@@ -189,8 +196,8 @@ keep-offer s us v cl few u = record {
   });
 }
   where
-    z : Sizes s
-    z = sizes-of s (v .is-sized)
+    z : Sizes everyTable s
+    z = sized-sizes s (v .is-sized)
 
     cap : ℕ
     cap = s .slots

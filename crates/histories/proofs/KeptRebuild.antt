@@ -10,16 +10,21 @@ use lib.Dec.{ltb}
 use lib.ListN.{length, getD, set, length-set, replicate, length-replicate}
 use lib.Seq.{getD-set-same, getD-set-other}
 use borrow.Author.Tests.{ltb-true, ne-eqb, not-false, eq-eqb}
-use Rattle.refusal.proofs.Tests.{and-true}
+use Rattle.refusal.proofs.Tests.{and-true, all}
+use Rattle.list_parts.specs.Lists.{elem}
+use Rattle.list_parts.proofs.Lists.{elem-not, elem-tail, elem-head}
 use Rattle.address.specs.Address.{isLocation, slabs}
 use Rattle.model.specs.Rebuild.{rows, heldBy, locatedBy, ownedBy, rebuilt}
 use Rattle.model.specs.Store.{Store, Row}
-use Rattle.model.specs.Tables.{slotPlace, write, inIds, elem, idsOf, locationsOf, writeAll, sized, capacities}
+use Rattle.model.specs.Tables.{slotPlace, write, inIds, idsOf, locationsOf, writeAll, allocators, capacities}
+use Rattle.model.specs.Lending.{lentFit, sized}
 use Rattle.model.specs.Truncation.{keeps}
 use Rattle.model.specs.Verdict.{ok}
 use Rattle.model.proofs.Batches.{length-useEach}
-use Rattle.model.proofs.Granted.{capacities-range}
-use Rattle.model.proofs.Tables.{all, length-write, set-each, write-each, slotPlace-lt, write-same, set-keeps, write-keeps, write-other, slotPlace-inj, isLocation-nz, elem-not, elem-tail, elem-head, zeros, length-writeAll}
+use Rattle.model.proofs.Sizes.{capacities-range}
+use Rattle.model.proofs.Lists.{set-each, set-keeps, zeros}
+use Rattle.model.proofs.Locations.{slotPlace-lt, slotPlace-inj, isLocation-nz}
+use Rattle.model.proofs.Writes.{length-write, write-each, write-same, write-keeps, write-other, length-writeAll}
 use Rattle.model.proofs.Verdicts.{then-ok, test-ok, first-ok}
 use Rattle.histories.specs.Invariant.{Good, Located, Inv}
 
@@ -165,7 +170,7 @@ length-ownedBy cap [] t = refl
 length-ownedBy cap (r ∷ rs) t = length-ownedBy cap rs _ ∙ length-write cap (r .1) (r .0) t
 
 pub rebuilt-sized : (n m : ℕ) (rs : List Row) → capacities n m ≡ true → sized (rebuilt n m rs) ≡ true
-unfolding sized
+unfolding sized lentFit
 rebuilt-sized n m rs c = all c (
     all (all (all (all (all
     (eq-eqb _ _ (length-heldBy rs _ ∙ length-replicate {A = ℕ} n 0))
@@ -173,7 +178,7 @@ rebuilt-sized n m rs c = all c (
     (eq-eqb _ _ (length-writeAll m (locationsOf rs) 1 _ ∙ length-replicate {A = ℕ} (slabs * m) 0)))
     (eq-eqb _ _ (length-ownedBy m rs _ ∙ length-replicate {A = ℕ} (slabs * m) 0)))
     refl)
-    (all (all refl (eq-eqb _ _ (length-useEach m _ (locationsOf rs) ∙ length-set (replicate 79 0) 0 (min 1 (length rs))))) refl))
+    (all (all refl (eq-eqb _ _ (length-useEach m _ (locationsOf rs) ∙ length-set (replicate allocators 0) 0 (min 1 (length rs))))) refl))
 
 zero-good : (n m : ℕ) → m ≤ 65536 → Good m (replicate n 0) (replicate n 0) (replicate (slabs * m) 0) (replicate (slabs * m) 0) []
 zero-good n m c = record {
@@ -194,7 +199,7 @@ rebuilt-inv s rs c a =
     record {
       is-sized = rebuilt-sized (s .ids) (s .slots) rs c;
       few = omega arith;
-      tops = λ k. rw (zeros 78 k) (r .1);
-      good = add-rows s _ _ _ _ rs (zero-good (s .ids) (s .slots) (r .2))
+      tops = λ k. rw (zeros 78 k) (r .slots-from);
+      good = add-rows s _ _ _ _ rs (zero-good (s .ids) (s .slots) (r .slots-to))
           (length-replicate (s .ids) 0) a (zero-rows (s .slots) (s .ids) (slabs * s .slots) rs);
     }

@@ -1,14 +1,14 @@
 -- What is proved of stores holds of the lent tables: each call leaves a memory from which the next store is read. Assumes nothing.
-use mathlib.Core.Path.{refl, ap, _∙_, _≡_, subst, sym}
-use mathlib.Core.Bool.{true}
+use mathlib.Core.Path.{refl, ap, _∙_, _≡_}
 use mathlib.Core.List.{[], _∷_}
 use Rattle.model.specs.Memory.{Memory, read}
 use Rattle.model.specs.MemoryAfter.{memoryAfter}
 use Rattle.model.specs.Step.{answer}
 use Rattle.model.specs.Store.{rebuild}
-use Rattle.model.specs.Tables.{capacities, live, idsOf, locationsOf}
+use Rattle.model.specs.Rebuild.{columns}
+use Rattle.model.specs.Tables.{live}
 use Rattle.model.proofs.Read.{read-after}
-use Rattle.model.proofs.Shapes.{sized-read}
+use Rattle.model.proofs.Sizes.{sized-read}
 use Rattle.histories.specs.Statements.{MemoryAgrees, seen, answers, RebuildAgreesLent}
 use Rattle.histories.proofs.Rebuilt.{rebuild-agrees}
 
@@ -24,8 +24,6 @@ capacities-lent m = (refl, refl)
 pub rebuild-agrees-lent : RebuildAgreesLent
 rebuild-agrees-lent n m h rs memory c a live en em l =
     let k = capacities-lent memory in
-    let z = sized-read memory (subst (λ x. capacities x (memory .slots) ≡ true) (sym en) (subst (λ x. capacities n x ≡ true) (sym em) c))
-    (l .id-marks) (l .locations) (l .slot-marks) (l .owners) (l .batch) (l .tallies) in
-    let r = rebuild-agrees n m h rs (read memory) c a live (k .0 ∙ en) (k .1 ∙ em) z in
-    let call = rebuild (idsOf rs) (locationsOf rs) in
+    let r = rebuild-agrees n m h rs (read memory) c a live (k .0 ∙ en) (k .1 ∙ em) (sized-read memory l) in
+    let call = rebuild (columns rs) in
     (r .0, λ later. memory-agrees (memoryAfter memory call) later ∙ ap (λ s. answers s later) (read-after memory call) ∙ r .1 later)

@@ -9,6 +9,10 @@ pub mod SameAnswers
 pub mod Abandoned
 pub mod Rebuilt
 pub mod LiveRows
+pub mod TalliedCounters
+pub mod TalliedIds
+pub mod TalliedSlots
+pub mod TalliedCalls
 pub mod Tallied
 pub mod MovesFit
 pub mod Smallest

@@ -8,10 +8,11 @@ use native.Mathlib.Nat.{add-zero, suc-ne-zero, add-suc, suc-add, zero-add}
 use native.Mathlib.Omega.{arith}
 use lib.ListN.{getD}
 use Rattle.refusal.proofs.Tests.{clash}
+use Rattle.list_parts.specs.Lists.{elem}
+use Rattle.list_parts.proofs.Lists.{elem-cases}
 use Rattle.model.specs.Step.{state}
 use Rattle.model.specs.Store.{Row, Store}
-use Rattle.model.specs.Tables.{slotPlace, elem, idsOf, locationOf}
-use Rattle.model.proofs.Tables.{elem-cases}
+use Rattle.model.specs.Tables.{idsOf, locationOf}
 use Rattle.histories.specs.Invariant.{Inv}
 use Rattle.histories.specs.Statements.{Distinct, none, more, AtRest, LiveRows, RowsExist}
 use Rattle.histories.proofs.Reached.{reached}

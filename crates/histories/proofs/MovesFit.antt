@@ -11,6 +11,8 @@ use lib.ListN.{getD, replicate, length-replicate, length}
 use lib.Ieee.{Float}
 use borrow.Author.Tests.{eqb-true, ltb-true}
 use Rattle.refusal.proofs.Tests.{and-true, clash}
+use Rattle.list_parts.specs.Lists.{elem}
+use Rattle.list_parts.proofs.Lists.{elem-cases}
 use Rattle.address.specs.Address.{packing, slabs}
 use Rattle.marks.specs.Marks.{isTaken}
 use Rattle.marks.proofs.LawsCount.{countIf-le}
@@ -19,13 +21,13 @@ use Rattle.fragmentation.proofs.LawsCutoff.{cutoff-le}
 use Rattle.model.specs.Defrag.{movesIn, movable, consIf, slabMoves, movesFrom, allMoves}
 use Rattle.model.specs.Rebuild.{heldBy}
 use Rattle.model.specs.Store.{Store, Row}
-use Rattle.model.specs.Tables.{inIds, locationOf, slotPlace, capacities, slabTip, live, elem, idsOf}
-use Rattle.model.proofs.Granted.{capacities-range}
-use Rattle.model.proofs.Tables.{elem-cases, zeros}
+use Rattle.model.specs.Tables.{inIds, locationOf, slotPlace, capacities, slabTip, live, idsOf}
+use Rattle.model.proofs.Sizes.{capacities-range}
+use Rattle.model.proofs.Lists.{zeros}
 use Rattle.histories.specs.Statements.{MovesFit}
 use Rattle.histories.proofs.Kept.{slabTip-le}
 use Rattle.histories.proofs.KeptRebuild.{length-heldBy}
-use Rattle.histories.proofs.Tallied.{Spare, count-heldBy, count-zeros}
+use Rattle.histories.proofs.TalliedIds.{Spare, count-heldBy, count-zeros}
 
 -- the moves' ids are in range, and their locations rise from b on and stay below c
 abbrev Rising : Store → ℕ → ℕ → List Row → Type 0
@@ -72,8 +74,8 @@ slab-rises s z r k =
     let b = cutoff (live s k) t r in
     let h : b ≤ t = cutoff-le (live s k) t r in
     let c = capacities-range (s .ids) (s .slots) z in
-    let u : t ≤ s .slots = slabTip-le s (c .1) k in
-    let w : s .slots ≤ 65536 = c .2 in
+    let u : t ≤ s .slots = slabTip-le s (c .slots-from) k in
+    let w : s .slots ≤ 65536 = c .slots-to in
     looser s (packing k 0) (packing k b) (packing (suc k) 0) (movesIn s k b (t - b)) (omega arith)
     (wider s (packing k b) (packing k (b + (t - b))) (packing (suc k) 0) (movesIn s k b (t - b)) (omega arith) (in-slab s k b (t - b)))
 

@@ -5,27 +5,27 @@ use mathlib.Core.List.{List, [], _∷_}
 use Prim.Native.Nat.{ℕ, _<_, zero, suc, _≤_, max, pred}
 use native.Mathlib.Omega.{arith}
 use lib.ListN.{length, getD, length-set, set}
-use Rattle.refusal.proofs.Tests.{and-true}
-use Rattle.model.specs.Batches.{updatesOf}
-use Rattle.model.specs.Rebuild.{rebuilt, rowsOf, freshStore}
-use Rattle.model.specs.Step.{effect, refusal, next, unless, after}
-use Rattle.model.specs.Store.{Store, Call, newId, release, offer, commit, abandon, fresh, rebuild, lookup, counters, defrag, truncation, report}
-use Rattle.model.specs.Tables.{sized, capacities, slabTip}
+use Rattle.model.specs.Batches.{updatesIn}
+use Rattle.model.specs.Rebuild.{rebuilt, rowsIn, freshStore}
+use Rattle.model.specs.Step.{effect, refusalOf, refusal, next, unless, after}
+use Rattle.model.specs.Store.{Store, Call, newId, release, offer, commit, abandon, fresh, rebuild, ask, truncation, report}
+use Rattle.model.specs.Tables.{capacities, slabTip}
+use Rattle.model.specs.Lending.{sized}
 use Rattle.model.specs.Truncation.{withHigh, raise}
 use Rattle.model.specs.Verdict.{ok, Verdict, refuse}
 use Rattle.model.proofs.Batches.{length-updatesOf}
-use Rattle.model.proofs.Granted.{offer-granted}
-use Rattle.model.proofs.Tables.{set-each}
+use Rattle.model.proofs.Granted.{granted-rest, offer-granted}
+use Rattle.model.proofs.Sizes.{sized-sizes}
+use Rattle.model.proofs.Lists.{set-each}
 use Rattle.model.proofs.Verdicts.{then-ok}
 use Rattle.histories.specs.Invariant.{Inv}
 use Rattle.histories.specs.Statements.{Reached}
-use Rattle.histories.proofs.Kept.{sized-same, keep-newId, keep-release, keep-commit, slabTip-le, sizes-of}
+use Rattle.histories.proofs.Kept.{sized-same, keep-newId, keep-release, keep-commit, slabTip-le}
 use Rattle.histories.proofs.KeptBatches.{keep-offer, keep-abandon}
 use Rattle.histories.proofs.KeptRebuild.{rebuilt-inv, rows-apart}
 
 pub caps-of : (s : Store) → sized s ≡ true → capacities (s .ids) (s .slots) ≡ true
-unfolding sized
-caps-of s e = and-true (capacities (s .ids) (s .slots)) _ e .0
+caps-of s e = sized-sizes s e .caps
 
 keep-high : (s : Store) (h : List ℕ) → length h ≡ length (s .tallies .high) → ((k : ℕ) → getD h k 0 < s .slots) → Inv s → Inv (withHigh s h)
 keep-high s h e m v = record { is-sized = sized-same (withHigh s h) s refl refl (rw e) ∙ v .is-sized; few = v .few; tops = m; good = v .good }
@@ -39,24 +39,23 @@ raise-lt h k zero n p a = a
 raise-lt h k (suc t) n p a = set-each (λ x. x < n) h k (max (getD h k 0) t) (omega (arith, a k)) a
 
 pub keep-effect : (s : Store) (c : Call) → Inv s → refusal s c ≡ ok → Inv (effect s c)
-unfolding refusal effect
+unfolding refusalOf effect
 keep-effect s newId v e = keep-newId s v
 keep-effect s release v e = keep-release s v
-keep-effect s (offer is ss ns out) v e =
-    let o = offer-granted s is ss ns out e in
-    keep-offer s (updatesOf is ss ns) v (o .shut) (rw (length-updatesOf is ss ns (o .stores) (o .lengths)) (o .few)) (o .fit)
+keep-effect s (offer o) v e =
+    let g = offer-granted s o e in
+    keep-offer s (updatesIn o) v (g .shut) (rw (length-updatesOf (o .ids) (o .stores) (o .lengths) (g .stores) (g .lengths)) (g .few)) (g .fit)
 keep-effect s commit v e = keep-commit s v
 keep-effect s abandon v e = keep-abandon s v
 keep-effect s fresh v e = rebuilt-inv s [] (caps-of s (v .is-sized)) tt
-keep-effect s (rebuild is ls) v e = rebuilt-inv s (rowsOf is ls) (caps-of s (v .is-sized)) (rows-apart s [] [] 0 (rowsOf is ls) (then-ok _ _ e))
-keep-effect s (lookup i) v e = v
-keep-effect s counters v e = v
-keep-effect s (defrag r is ls) v e = v
+keep-effect s (rebuild rs) v e =
+    rebuilt-inv s (rowsIn rs) (caps-of s (v .is-sized)) (rows-apart s [] [] 0 (rowsIn rs) (then-ok _ _ (granted-rest s (rebuild rs) e)))
+keep-effect s (ask q) v e = v
 keep-effect s (truncation k t) v e = keep-high s (raise (s .tallies .high) k (slabTip s k)) (length-raise (s .tallies .high) k (slabTip s k))
-    (raise-lt (s .tallies .high) k (slabTip s k) (s .slots) (slabTip-le s (sizes-of s (v .is-sized) .slots-low) k) (v .tops)) v
+    (raise-lt (s .tallies .high) k (slabTip s k) (s .slots) (slabTip-le s (sized-sizes s (v .is-sized) .range .slots-from) k) (v .tops)) v
 keep-effect s (report k t) v e = keep-high s (set (s .tallies .high) k (pred (slabTip s k))) (length-set (s .tallies .high) k (pred (slabTip s k)))
     (set-each (λ x. x < s .slots) (s .tallies .high) k (pred (slabTip s k))
-    (omega (arith, slabTip-le s (sizes-of s (v .is-sized) .slots-low) k, sizes-of s (v .is-sized) .slots-low)) (v .tops)) v
+    (omega (arith, slabTip-le s (sized-sizes s (v .is-sized) .range .slots-from) k, sized-sizes s (v .is-sized) .range .slots-from)) (v .tops)) v
 
 pub keep-next : (s : Store) (c : Call) → Inv s → Inv (next s c)
 unfolding next

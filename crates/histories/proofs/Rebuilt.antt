@@ -12,21 +12,27 @@ use lib.ListN.{getD, set, length, length-set, replicate, length-replicate, lengt
 use lib.Seq.{getD-set-same, getD-set-other, ext-getD}
 use borrow.Author.Tests.{lt-ltb}
 use Rattle.refusal.specs.Refusals.{noSuchId, repeatedId, outOfRange, repeatedLocation, wrongShape}
-use Rattle.refusal.proofs.Tests.{clash, and-true}
-use Rattle.address.specs.Address.{slabs, packing, isLocation}
+use Rattle.refusal.proofs.Tests.{clash, and-true, all, contradiction}
+use Rattle.list_parts.specs.Lists.{elem}
+use Rattle.list_parts.proofs.Lists.{elem-head, elem-tail, elem-cases, elem-not}
+use Rattle.address.specs.Address.{packing, isLocation, slabs}
 use Rattle.marks.specs.Marks.{isHeld}
 use Rattle.id_allocator.specs.Written.{opened}
-use Rattle.model.specs.Rebuild.{rows, heldBy, locatedBy, rebuilt, freshStore}
-use Rattle.model.specs.Step.{effect, next, refusal, unless, after, state}
-use Rattle.model.specs.Store.{Store, Call, newId, release, offer, commit, abandon, fresh, rebuild, lookup, counters, defrag, truncation, report, Row}
-use Rattle.model.specs.Tables.{kept, slotPlace, elem, idsOf, locationsOf, sized, heldId, locationOf, live, inIds, writeAll, pairs}
+use Rattle.model.specs.Rebuild.{rows, columns, heldBy, locatedBy, rebuilt, freshStore}
+use Rattle.model.specs.Lending.{everyTable, sized}
+use Rattle.model.specs.Step.{effect, next, refusalOf, refusal, unless, after, state}
+use Rattle.model.specs.Store.{Store, Call, newId, release, offer, commit, abandon, fresh, rebuild, ask, truncation, report, Row}
+use Rattle.model.specs.Tables.{kept, slotPlace, idsOf, locationsOf, heldId, locationOf, live, inIds, writeAll, pairs}
 use Rattle.model.specs.Verdict.{ok, Verdict, refuse, _⨾_, test}
 use Rattle.model.proofs.Answered.{next-granted}
 use Rattle.model.proofs.Rows.{asLong-rows, rowsOf-rows}
-use Rattle.model.proofs.Tables.{all, elem-head, elem-tail, elem-cases, contradiction, elem-not, set-keeps, nz-lt, one-nz, zeros, isLocation-packing, slotPlace-packing, isLocation-nz, writeAll-same, slotPlace-lt, writeAll-other, length-writeAll}
+use Rattle.model.proofs.Sizes.{Sizes, sized-sizes, sized-shape}
+use Rattle.model.proofs.Lists.{set-keeps, nz-lt, one-nz, zeros}
+use Rattle.model.proofs.Locations.{isLocation-packing, slotPlace-packing, isLocation-nz, slotPlace-lt}
+use Rattle.model.proofs.Writes.{writeAll-same, writeAll-other, length-writeAll}
 use Rattle.histories.specs.Invariant.{Inv, Located}
 use Rattle.histories.specs.Statements.{Distinct, none, more, AtRest, LiveRows, RebuildAgrees, answers}
-use Rattle.histories.proofs.Kept.{rows-frame, Sizes, sizes-of}
+use Rattle.histories.proofs.Kept.{rows-frame}
 use Rattle.histories.proofs.KeptBatches.{held-one}
 use Rattle.histories.proofs.KeptRebuild.{Apart, length-heldBy, length-locatedBy, rebuilt-inv}
 use Rattle.histories.proofs.Reached.{reached, caps-of}
@@ -39,14 +45,12 @@ effect-caps : (s : Store) (c : Call) → ((effect s c) .ids ≡ s .ids) × ((eff
 unfolding effect
 effect-caps s newId = (refl, refl)
 effect-caps s release = (refl, refl)
-effect-caps s (offer is ss ns out) = (refl, refl)
+effect-caps s (offer o) = (refl, refl)
 effect-caps s commit = let f = rows-frame s (kept s) in (f .ids, f .slots)
 effect-caps s abandon = (refl, refl)
 effect-caps s fresh = (refl, refl)
-effect-caps s (rebuild is ls) = (refl, refl)
-effect-caps s (lookup i) = (refl, refl)
-effect-caps s counters = (refl, refl)
-effect-caps s (defrag r is ls) = (refl, refl)
+effect-caps s (rebuild rs) = (refl, refl)
+effect-caps s (ask q) = (refl, refl)
 effect-caps s (truncation k t) = (refl, refl)
 effect-caps s (report k t) = (refl, refl)
 
@@ -166,8 +170,8 @@ locatedBy-in t r (more {r = q} {rs = qs} e d) m h = go (λ k. locatedBy-in (set 
 -- ---- the live rows of a store at rest
 
 module _ (s : Store) (v : Inv s) (a : AtRest s) where
-  sz : Sizes s
-  sz = sizes-of s (v .is-sized)
+  sz : Sizes everyTable s
+  sz = sized-sizes s (v .is-sized)
 
   in-ids : (i : ℕ) → 0 < i → getD (s .idMarks) i 0 ≡ 1 → heldId s i ≡ true
   in-ids i p e = all (all (lt-ltb 0 i p) (lt-ltb i (s .ids) (rw (sz .id-marks) at (nz-lt (s .idMarks) i (one-nz e))))) (ap isHeld e)
@@ -251,7 +255,7 @@ module _ (s : Store) (v : Inv s) (a : AtRest s) (rs : List Row) (live : LiveRows
       l = packing (p / cap) (p % cap)
 
       pos : 0 < cap
-      pos = sz s v a .slots-low
+      pos = sz s v a .range .slots-from
 
       slot : p % cap < cap
       slot = mod-lt p pos
@@ -309,20 +313,17 @@ rows-by-caps s t p q is ls i (r ∷ rs) = λ k.
     rows-by-caps s t p q (r .0 ∷ is) (r .1 ∷ ls) (suc i) rs k
 
 live-granted : (s : Store) → Inv s → AtRest s → (rs : List Row) → LiveRows s rs → (memory : Store) → memory .ids ≡ s .ids → memory .slots ≡ s .slots
-    → sized memory ≡ true → refusal memory (rebuild (idsOf rs) (locationsOf rs)) ≡ ok
-unfolding refusal _⨾_ test
+    → sized memory ≡ true → refusal memory (rebuild (columns rs)) ≡ ok
+unfolding refusal refusalOf _⨾_ test
 live-granted s v a rs live memory p q z = λ k.
-    test (not (all (fit .caps) (all (fit .tables-fit) (asLong-rows rs)) k)) wrongShape 0 ⨾
+    sized-shape memory z (rebuild (columns rs)) k ⨾ test (not (asLong-rows rs k)) wrongShape 0 ⨾
     (ap (rows memory [] [] 0) (rowsOf-rows rs) ∙ rows-by-caps memory s p q [] [] 0 rs
     ∙ apart-granted s [] [] 0 rs (live-apart s v a rs live) (λ x e. clash (sym e)) (λ x e. clash (sym e))) k
-  where
-    fit : Sizes memory
-    fit = sizes-of memory z
 
-rebuild-next : (memory : Store) (rs : List Row) → refusal memory (rebuild (idsOf rs) (locationsOf rs)) ≡ ok
-    → next memory (rebuild (idsOf rs) (locationsOf rs)) ≡ rebuilt (memory .ids) (memory .slots) rs
+rebuild-next : (memory : Store) (rs : List Row) → refusal memory (rebuild (columns rs)) ≡ ok
+    → next memory (rebuild (columns rs)) ≡ rebuilt (memory .ids) (memory .slots) rs
 unfolding effect
-rebuild-next memory rs e = next-granted memory (rebuild (idsOf rs) (locationsOf rs)) e ∙ ap (rebuilt (memory .ids) (memory .slots)) (rowsOf-rows rs)
+rebuild-next memory rs e = next-granted memory (rebuild (columns rs)) e ∙ ap (rebuilt (memory .ids) (memory .slots)) (rowsOf-rows rs)
 
 pub rebuild-agrees : RebuildAgrees
 rebuild-agrees n m h rs memory c a live en em z =
@@ -331,7 +332,7 @@ rebuild-agrees n m h rs memory c a live en em z =
     let k = after-caps (freshStore n m) h in
     let p : memory .ids ≡ s .ids = en ∙ sym (k .0) in
     let q : memory .slots ≡ s .slots = em ∙ sym (k .1) in
-    let g : refusal memory (rebuild (idsOf rs) (locationsOf rs)) ≡ ok = live-granted s v a rs live memory p q z in (
+    let g : refusal memory (rebuild (columns rs)) ≡ ok = live-granted s v a rs live memory p q z in (
       g,
       λ later.
           ap (λ x. answers x later) (rebuild-next memory rs g ∙ λ i. rebuilt (p i) (q i) rs)

@@ -1,30 +1,32 @@
 -- Two stores that no call but the excepted ones tells apart, and that they refuse alike. Assumes nothing.
 use mathlib.Core.Path.{_≡_, refl, sym, _∙_, ap}
-use mathlib.Core.Bool.{false, not, Bool, _&&_, _||_}
+use mathlib.Core.Bool.{false, not, _&&_, _||_}
 use mathlib.Core.List.{List, [], _∷_}
 use Prim.Native.Nat.{ℕ, suc, zero, _+_}
 use native.Mathlib.Nat.{suc-ne-zero}
 use lib.Dec.{eqb, ltb, leb}
 use lib.ListN.{drop, getD, set, length}
-use lib.Ieee.{Float}
 use borrow.Author.Tests.{eq-eqb, lt-leb}
-use Rattle.refusal.specs.Refusals.{wrongShape, batchOpen, noBatch, tablesDisagree, noSuchId, repeatedId, tooLarge, outOfRange, repeatedLocation, noneFree, tooMany, ratioOutOfRange}
+use Rattle.refusal.proofs.Tests.{all}
+use Rattle.refusal.specs.Refusals.{batchOpen, noBatch, tablesDisagree, noSuchId, repeatedId, tooLarge, outOfRange, repeatedLocation, noneFree, tooMany, ratioOutOfRange}
+use Rattle.list_parts.specs.Lists.{elem}
 use Rattle.address.specs.Address.{isLocation, slabs}
 use Rattle.marks.specs.Marks.{isHeld, firstFree}
 use Rattle.id_allocator.specs.Written.{opened}
 use Rattle.fragmentation.specs.Cutoff.{isRatio}
-use Rattle.model.specs.Batches.{updates, idOf, noClass, room, badRow, commitRows, abandonRows, takenBy, place, updatesOf}
+use Rattle.model.specs.Batches.{updates, idOf, noClass, room, badRow, commitRows, abandonRows, takenBy, place, updatesIn}
 use Rattle.model.specs.Ids.{nextId}
-use Rattle.model.specs.Rebuild.{rows, rowsOf}
-use Rattle.model.specs.Step.{shape, noneOpen, oneOpen, refusal, asLong, slabRefusal}
-use Rattle.model.specs.Store.{Store, Update, Row, commit, abandon, newId, release, offer, fresh, rebuild, lookup, defrag, counters, truncation}
-use Rattle.model.specs.Tables.{slotPlace, kept, badLocation, locationOf, badAt, idMarksFit, locationsFit, slotMarksFit, ownersFit, batchFits, talliesFit, tablesFit, isOpen, inIds, heldId, elem}
+use Rattle.model.specs.Questions.{askRefusal}
+use Rattle.model.specs.Rebuild.{rows, rowsIn}
+use Rattle.model.specs.Step.{refusalOf, refusal, slabRefusal}
+use Rattle.model.specs.Store.{Store, Update, Row, Offer, Rows, Question, lookup, counters, defrag, Call, newId, release, offer, commit, abandon, rebuild}
+use Rattle.model.specs.Tables.{mostUpdates, mostOpened, slotPlace, kept, badLocation, locationOf, badAt, isOpen, inIds, heldId}
+use Rattle.model.specs.Tests.{shape, lists, asLong, noneOpen, oneOpen}
 use Rattle.model.specs.Truncation.{highMark, isTarget}
 use Rattle.model.specs.Verdict.{test, _⨾_}
-use Rattle.model.proofs.Tables.{all}
+use Rattle.model.proofs.Sizes.{sized-shape}
 use Rattle.histories.specs.Invariant.{Inv, Located}
 use Rattle.histories.specs.Statements.{seen}
-use Rattle.histories.proofs.Kept.{Sizes, sizes-of}
 
 pub record Same (s t : Store) : Type 0 where
   pub ids : s .ids ≡ t .ids
@@ -91,35 +93,8 @@ never-13 s v i = go (locationOf s i) refl
         ap not (all (all (L .range) (ap isHeld (L .slot-held))) (eq-eqb _ i (L .owner)))
 
 module _ (s t : Store) (e : Same s t) (vs : Inv s) (vt : Inv t) where
-  zs : Sizes s
-  zs = sizes-of s (vs .is-sized)
-
-  zt : Sizes t
-  zt = sizes-of t (vt .is-sized)
-
-  ids-fit : idMarksFit s ≡ idMarksFit t
-  ids-fit = zs .id-marks-fit ∙ sym (zt .id-marks-fit)
-
-  locations-fit : locationsFit s ≡ locationsFit t
-  locations-fit = zs .locs-fit ∙ sym (zt .locs-fit)
-
-  slots-fit : slotMarksFit s ≡ slotMarksFit t
-  slots-fit = zs .slot-marks-fit ∙ sym (zt .slot-marks-fit)
-
-  owners-fit : ownersFit s ≡ ownersFit t
-  owners-fit = zs .owners-fit ∙ sym (zt .owners-fit)
-
-  batch-fits : batchFits s ≡ batchFits t
-  batch-fits = zs .batch-fits ∙ sym (zt .batch-fits)
-
-  tallies-fit : talliesFit s ≡ talliesFit t
-  tallies-fit = zs .tallies-fit ∙ sym (zt .tallies-fit)
-
-  tables-fit : tablesFit s ≡ tablesFit t
-  tables-fit = zs .tables-fit ∙ sym (zt .tables-fit)
-
-  shaped : {a b : Bool} → a ≡ b → shape s a ≡ shape t b
-  shaped p = λ k. test (not ((zs .caps ∙ sym (zt .caps)) k && p k)) wrongShape 0
+  pub shapes : (c : Call) → shape s c ≡ shape t c
+  shapes c = sized-shape s (vs .is-sized) c ∙ sym (sized-shape t (vt .is-sized) c)
 
   pub open-same : isOpen s ≡ isOpen t
   open-same = ap (λ n. ltb 0 n) (e .opened)
@@ -128,7 +103,7 @@ module _ (s t : Store) (e : Same s t) (vs : Inv s) (vt : Inv t) where
   none-open = ap (λ b. test b batchOpen 0) open-same
 
   one-open : oneOpen s ≡ oneOpen t
-  one-open = λ k. test (not (open-same k)) noBatch 0 ⨾ test (ltb 257 (e .opened k)) tablesDisagree 0
+  one-open = λ k. test (not (open-same k)) noBatch 0 ⨾ test (ltb mostOpened (e .opened k)) tablesDisagree 0
 
   pub inIds-same : (i : ℕ) → inIds s i ≡ inIds t i
   inIds-same i = ap (λ n. ltb 0 i && ltb i n) (e .ids)
@@ -179,61 +154,49 @@ module _ (s t : Store) (e : Same s t) (vs : Inv s) (vt : Inv t) where
   pub taken-same : (us : List Update) → takenBy s us ≡ takenBy t us
   taken-same us = λ i. place (e .slots i) (e .slot-marks i) us
 
-  pub refusal-newId : refusal s newId ≡ refusal t newId
-  unfolding refusal
-  refusal-newId = λ k.
-      shaped (λ i. ids-fit i && batch-fits i && tallies-fit i) k ⨾ none-open k ⨾ test (leb (e .ids k) (next-same k)) noneFree 0
-
-  pub refusal-release : refusal s release ≡ refusal t release
-  unfolding refusal
-  refusal-release = λ k. shaped (λ i. ids-fit i && slots-fit i && batch-fits i && tallies-fit i) k ⨾ none-open k
-
-  pub refusal-offer : (is : List ℕ) (ss : List Bool) (ns out : List ℕ) → refusal s (offer is ss ns out) ≡ refusal t (offer is ss ns out)
-  unfolding refusal
-  refusal-offer is ss ns out = λ k.
-      shaped (λ i. tables-fit i && (asLong is ss && asLong is ns && asLong is out)) k ⨾ none-open k ⨾ test (ltb 256 (length is)) tooMany 0 ⨾
-      updates-same [] 0 (updatesOf is ss ns) k ⨾ room-same (updatesOf is ss ns) slabs 0 k
-
-  pub refusal-commit : refusal s commit ≡ refusal t commit
-  unfolding refusal
-  refusal-commit = λ k. shaped tables-fit k ⨾ one-open k ⨾ (commit-same 0 (kept s) ∙ ap (commitRows t 0) (e .batch)) k
-
-  pub refusal-abandon : refusal s abandon ≡ refusal t abandon
-  unfolding refusal
-  refusal-abandon = λ k.
-      shaped (λ i. slots-fit i && batch-fits i && tallies-fit i) k ⨾ one-open k ⨾ (abandon-same 0 (kept s) ∙ ap (abandonRows t 0) (e .batch)) k
-
-  pub refusal-fresh : refusal s fresh ≡ refusal t fresh
-  unfolding refusal
-  refusal-fresh = shaped tables-fit
-
-  pub refusal-rebuild : (is ls : List ℕ) → refusal s (rebuild is ls) ≡ refusal t (rebuild is ls)
-  unfolding refusal
-  refusal-rebuild is ls = λ k. shaped (λ i. tables-fit i && asLong is ls) k ⨾ rows-same [] [] 0 (rowsOf is ls) k
-
-  pub refusal-lookup : (i : ℕ) → refusal s (lookup i) ≡ refusal t (lookup i)
-  unfolding refusal
-  refusal-lookup i = λ k.
-      shaped (λ j. ids-fit j && locations-fit j && slots-fit j && owners-fit j && tallies-fit j) k ⨾
-      test (not (held-same i k) || eqb (loc-same i k) 0) noSuchId 0 ⨾ test (bad-same i k) tablesDisagree 0
-
-  pub refusal-defrag : (r : Float) (is ls : List ℕ) → refusal s (defrag r is ls) ≡ refusal t (defrag r is ls)
-  unfolding refusal
-  refusal-defrag r is ls = λ k.
-      shaped (λ i. locations-fit i && slots-fit i && owners-fit i && batch-fits i && tallies-fit i && (eqb (suc (length is)) (e .ids i) && asLong is ls)) k ⨾
-      none-open k ⨾ test (not (isRatio r)) ratioOutOfRange 0
-
   -- no high mark of a reached store is out of range
   pub slab-same : (k d : ℕ) → slabRefusal s k d ≡ slabRefusal t k d
   slab-same k d = λ i.
-      shaped (λ j. slots-fit j && batch-fits j && tallies-fit j) i ⨾ none-open i ⨾
+      none-open i ⨾
       test (leb slabs k || (lt-leb (s .slots) (highMark s k) (vs .tops k) ∙ sym (lt-leb (t .slots) (highMark t k) (vt .tops k))) i) outOfRange 0 ⨾
       test (not (isTarget d)) ratioOutOfRange 0
 
-  pub refusal-counters : refusal s counters ≡ refusal t counters
-  unfolding refusal
-  refusal-counters = shaped tallies-fit
+  -- a question is refused alike
+  pub ask-same : (q : Question) → askRefusal s q ≡ askRefusal t q
+  unfolding askRefusal
+  ask-same (lookup i) = λ k. test (not (held-same i k) || eqb (loc-same i k) 0) noSuchId 0 ⨾ test (bad-same i k) tablesDisagree 0
+  ask-same counters = refl
+  ask-same (defrag r is ls) = λ k.
+      lists (eqb (suc (length is)) (e .ids k) && asLong is ls) ⨾ none-open k ⨾ test (not (isRatio r)) ratioOutOfRange 0
 
-  pub refusal-truncation : (k d : ℕ) → refusal s (truncation k d) ≡ refusal t (truncation k d)
+  -- ---- refused alike: the tests after refusal 1, which no such store gives for its tables
+
+  pub rest-newId : refusalOf s newId ≡ refusalOf t newId
+  unfolding refusalOf
+  rest-newId = λ k. none-open k ⨾ test (leb (e .ids k) (next-same k)) noneFree 0
+
+  pub rest-release : refusalOf s release ≡ refusalOf t release
+  unfolding refusalOf
+  rest-release = none-open
+
+  pub rest-offer : (o : Offer) → refusalOf s (offer o) ≡ refusalOf t (offer o)
+  unfolding refusalOf
+  rest-offer o = λ k.
+      lists (asLong (o .ids) (o .stores) && asLong (o .ids) (o .lengths) && asLong (o .ids) (o .placed)) ⨾ none-open k ⨾
+      test (ltb mostUpdates (length (o .ids))) tooMany 0 ⨾ updates-same [] 0 (updatesIn o) k ⨾ room-same (updatesIn o) slabs 0 k
+
+  pub rest-commit : refusalOf s commit ≡ refusalOf t commit
+  unfolding refusalOf
+  rest-commit = λ k. one-open k ⨾ (commit-same 0 (kept s) ∙ ap (commitRows t 0) (e .batch)) k
+
+  pub rest-abandon : refusalOf s abandon ≡ refusalOf t abandon
+  unfolding refusalOf
+  rest-abandon = λ k. one-open k ⨾ (abandon-same 0 (kept s) ∙ ap (abandonRows t 0) (e .batch)) k
+
+  pub rest-rebuild : (rs : Rows) → refusalOf s (rebuild rs) ≡ refusalOf t (rebuild rs)
+  unfolding refusalOf
+  rest-rebuild rs = λ k. lists (asLong (rs .ids) (rs .locations)) ⨾ rows-same [] [] 0 (rowsIn rs) k
+
+  pub refusal-by : (c : Call) → refusalOf s c ≡ refusalOf t c → refusal s c ≡ refusal t c
   unfolding refusal
-  refusal-truncation k d = slab-same k d
+  refusal-by c r = λ k. shapes c k ⨾ r k

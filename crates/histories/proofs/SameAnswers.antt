@@ -1,28 +1,31 @@
 -- Two such stores answer alike, and are such stores after each call. Assumes nothing.
 use mathlib.Core.Path.{_≡_, ap, refl, subst, _∙_, sym}
-use mathlib.Core.Bool.{Bool, cond, true, false}
+use mathlib.Core.Bool.{Bool, true, false}
 use mathlib.Core.List.{List, [], _∷_, map}
-use Prim.Native.Nat.{ℕ, zero, suc, max}
-use lib.Dec.{ltb}
+use Prim.Native.Nat.{ℕ, zero, suc}
 use lib.ListN.{drop, set, getD, length}
+use Rattle.refusal.specs.Outcomes.{granted}
 use Rattle.refusal.specs.Refusals.{nothingToCut}
-use Rattle.sizes.specs.Sizes.{sizeOf}
+use Rattle.list_parts.proofs.Lists.{drop-map}
 use Rattle.marks.specs.Marks.{hold, letGo}
 use Rattle.id_allocator.specs.Written.{opened}
-use Rattle.model.specs.Batches.{applyRow, applyRows, afterOffer, idOf, afterCommit, afterAbandon, updatesOf}
+use Rattle.model.specs.Batches.{applyRow, applyRows, afterOffer, idOf, afterCommit, afterAbandon, updatesIn}
 use Rattle.model.specs.Ids.{afterNewId, nextId, afterRelease}
-use Rattle.model.specs.Rebuild.{rebuilt, rowsOf}
-use Rattle.model.specs.Step.{next, refusal, grant, effect, answer, answerBy, unless, slabRefusal}
-use Rattle.model.specs.Store.{Store, Row, Batch, withBatch, newId, release, offer, Update, commit, abandon, Call, cut, keep, report, done, gave, placed, fresh, rebuild, lookup, counters, defrag, moves, truncation}
+use Rattle.model.specs.Questions.{reply}
+use Rattle.model.specs.Rebuild.{rebuilt, rowsIn}
+use Rattle.model.specs.Step.{next, refusalOf, refusal, grant, effect, answer, answerBy, unless, slabRefusal}
+use Rattle.model.specs.Store.{Store, Row, Batch, withBatch, Update, Question, lookup, counters, defrag, Call, newId, release, offer, commit, abandon, fresh, rebuild, ask, truncation, report}
+use Rattle.model.specs.Store.{done, gave, placed, moves}
 use Rattle.model.specs.Tables.{write, locationOf, shut, writeAll, kept, pairs, locationsOf, slabTip}
-use Rattle.model.specs.Truncation.{withHigh, cutAt, fill, highMark, newLength, bytesGivenBack, keeps}
+use Rattle.model.specs.Tests.{shape}
+use Rattle.model.specs.Truncation.{withHigh, cutAt, keeps}
 use Rattle.model.specs.Verdict.{Verdict, ok, refuse, _⨾_, test}
-use Rattle.model.proofs.Tables.{drop-map}
+use Rattle.model.proofs.Verdicts.{assoc}
 use Rattle.histories.specs.Invariant.{Inv}
-use Rattle.histories.specs.Statements.{seen, veil, excepted, veilReport, shown, answers}
+use Rattle.histories.specs.Statements.{seen, veil, shown, answers}
 use Rattle.histories.proofs.KeptBatches.{kept-offer}
 use Rattle.histories.proofs.Reached.{keep-next}
-use Rattle.histories.proofs.Same.{Same, drop-set, same-refl, drop-set-zero, next-same, taken-same, same-trans, slab-same, refusal-newId, refusal-release, refusal-offer, refusal-commit, refusal-abandon, refusal-fresh, refusal-rebuild, refusal-lookup, loc-same, refusal-counters, refusal-defrag, refusal-truncation, same-sym}
+use Rattle.histories.proofs.Same.{Same, drop-set, same-refl, drop-set-zero, next-same, taken-same, same-trans, shapes, slab-same, ask-same, rest-newId, rest-release, rest-offer, rest-commit, rest-abandon, rest-rebuild, refusal-by, loc-same, same-sym}
 use Rattle.histories.proofs.SameMoves.{allMoves-same}
 
 -- ---- the store after a granted call
@@ -126,10 +129,10 @@ module _ (s t : Store) (e : Same s t) (vs : Inv s) (vt : Inv t) where
   rebuilt-leaves rs = equal-same λ k. rebuilt (e .ids k) (e .slots k) rs
 
   -- a call that is answered alike in both
-  both-by : (c : Call) → refusal s c ≡ refusal t c → seen c (grant s c) ≡ seen c (grant t c) → Same (effect s c) (effect t c)
+  both-by : (c : Call) → refusalOf s c ≡ refusalOf t c → seen c (granted (grant s c)) ≡ seen c (granted (grant t c)) → Same (effect s c) (effect t c)
       → (seen c (answer s c) ≡ seen c (answer t c)) × Same (next s c) (next t c)
   unfolding answer next
-  both-by c r g f = go (refusal t c) r refl
+  both-by c r g f = go (refusal t c) (refusal-by s t e vs vt c r) refl
     where
       go : (w : Verdict) → refusal s c ≡ w → refusal t c ≡ w
           → (seen c (answerBy (refusal s c) (grant s c)) ≡ seen c (answerBy (refusal t c) (grant t c)))
@@ -146,16 +149,8 @@ unseen-effect s c f = go (refusal s c)
     go ok = f
     go (refuse n i) = same-refl s
 
--- what is seen of a truncation or a cut report that is not refused for its arguments
-veil-of : (b : Bool) (x y : ℕ) → veil (cond b (cut x y) keep) ≡ excepted
-veil-of true x y = refl
-veil-of false x y = refl
-
-veil-cut : (s : Store) (k d n : ℕ) → veil (cutAt s k d n) ≡ excepted
-veil-cut s k d zero = refl
-veil-cut s k d (suc n) = veil-of (ltb (fill (sizeOf k) n (max (highMark s k) n)) d) (newLength (sizeOf k) n) (bytesGivenBack (sizeOf k) n)
-
-report-by : (v : Verdict) (b c : Bool) → veilReport (answerBy (v ⨾ test b nothingToCut 0) done) ≡ veilReport (answerBy (v ⨾ test c nothingToCut 0) done)
+-- what is seen of a cut report that is not refused for its arguments
+report-by : (v : Verdict) (b c : Bool) → veil (answerBy (v ⨾ test b nothingToCut 0) done) ≡ veil (answerBy (v ⨾ test c nothingToCut 0) done)
 unfolding _⨾_ test
 report-by ok true true = refl
 report-by ok true false = refl
@@ -163,32 +158,39 @@ report-by ok false true = refl
 report-by ok false false = refl
 report-by (refuse n i) b c = refl
 
-report-seen : (s t : Store) → Same s t → Inv s → Inv t → (k d : ℕ) → veilReport (answer s (report k d)) ≡ veilReport (answer t (report k d))
-unfolding answer refusal grant
+report-seen : (s t : Store) → Same s t → Inv s → Inv t → (k d : ℕ) → veil (answer s (report k d)) ≡ veil (answer t (report k d))
+unfolding answer refusal refusalOf grant
 report-seen s t e vs vt k d =
-    report-by (slabRefusal s k d) (keeps (cutAt s k d (slabTip s k))) (keeps (cutAt t k d (slabTip t k)))
-    ∙ ap (λ v. veilReport (answerBy (v ⨾ test (keeps (cutAt t k d (slabTip t k))) nothingToCut 0) done)) (slab-same s t e vs vt k d)
+    (λ i. veil (answerBy (assoc (shape s (report k d)) (slabRefusal s k d) (keeping s) i) done))
+    ∙ report-by (shape s (report k d) ⨾ slabRefusal s k d) (keeps (cutAt s k d (slabTip s k))) (keeps (cutAt t k d (slabTip t k)))
+    ∙ (λ i. veil (answerBy ((shapes s t e vs vt (report k d) i ⨾ slab-same s t e vs vt k d i) ⨾ keeping t) done))
+    ∙ (λ i. veil (answerBy (sym (assoc (shape t (report k d)) (slabRefusal t k d) (keeping t)) i) done))
+  where
+    keeping : Store → Verdict
+    keeping x = test (keeps (cutAt x k d (slabTip x k))) nothingToCut 0
+
+-- what a question grants
+reply-seen : (s t : Store) → Same s t → Inv s → Inv t → (q : Question) → seen (ask q) (granted (reply s q)) ≡ seen (ask q) (granted (reply t q))
+unfolding reply
+reply-seen s t e vs vt (lookup i) = ap (λ l. shown (granted (gave l))) (loc-same s t e vs vt i)
+reply-seen s t e vs vt counters = refl
+reply-seen s t e vs vt (defrag r is ls) = ap (λ ms. shown (granted (moves ms))) (allMoves-same s t e vs vt r)
 
 pub step-same : (s t : Store) → Same s t → Inv s → Inv t → (c : Call) → (seen c (answer s c) ≡ seen c (answer t c)) × Same (next s c) (next t c)
-unfolding grant effect
-step-same s t e vs vt newId = both-by s t e vs vt newId (refusal-newId s t e vs vt) (ap (λ n. shown (gave n)) (next-same s t e vs vt)) (newId-same s t e vs vt)
-step-same s t e vs vt release = both-by s t e vs vt release (refusal-release s t e vs vt) refl (release-same s t e vs vt)
-step-same s t e vs vt (offer is ss ns out) =
-    let us = updatesOf is ss ns in
-    both-by s t e vs vt (offer is ss ns out) (refusal-offer s t e vs vt is ss ns out) (ap (λ ls. shown (placed ls)) (taken-same s t e vs vt us))
-    (offer-same s t e vs vt us)
-step-same s t e vs vt commit = both-by s t e vs vt commit (refusal-commit s t e vs vt) refl (commit-leaves s t e vs vt)
-step-same s t e vs vt abandon = both-by s t e vs vt abandon (refusal-abandon s t e vs vt) refl (abandon-leaves s t e vs vt)
-step-same s t e vs vt fresh = both-by s t e vs vt fresh (refusal-fresh s t e vs vt) refl (rebuilt-leaves s t e vs vt [])
-step-same s t e vs vt (rebuild is ls) =
-    both-by s t e vs vt (rebuild is ls) (refusal-rebuild s t e vs vt is ls) refl (rebuilt-leaves s t e vs vt (rowsOf is ls))
-step-same s t e vs vt (lookup i) = both-by s t e vs vt (lookup i) (refusal-lookup s t e vs vt i) (ap (λ l. shown (gave l)) (loc-same s t e vs vt i)) e
-step-same s t e vs vt counters = both-by s t e vs vt counters (refusal-counters s t e vs vt) refl e
-step-same s t e vs vt (defrag r is ls) =
-    both-by s t e vs vt (defrag r is ls) (refusal-defrag s t e vs vt r is ls) (ap (λ ms. shown (moves ms)) (allMoves-same s t e vs vt r)) e
+unfolding refusalOf grant effect
+step-same s t e vs vt newId =
+    both-by s t e vs vt newId (rest-newId s t e vs vt) (ap (λ n. shown (granted (gave n))) (next-same s t e vs vt)) (newId-same s t e vs vt)
+step-same s t e vs vt release = both-by s t e vs vt release (rest-release s t e vs vt) refl (release-same s t e vs vt)
+step-same s t e vs vt (offer o) =
+    both-by s t e vs vt (offer o) (rest-offer s t e vs vt o) (ap (λ ls. shown (granted (placed ls))) (taken-same s t e vs vt (updatesIn o)))
+    (offer-same s t e vs vt (updatesIn o))
+step-same s t e vs vt commit = both-by s t e vs vt commit (rest-commit s t e vs vt) refl (commit-leaves s t e vs vt)
+step-same s t e vs vt abandon = both-by s t e vs vt abandon (rest-abandon s t e vs vt) refl (abandon-leaves s t e vs vt)
+step-same s t e vs vt fresh = both-by s t e vs vt fresh refl refl (rebuilt-leaves s t e vs vt [])
+step-same s t e vs vt (rebuild rs) = both-by s t e vs vt (rebuild rs) (rest-rebuild s t e vs vt rs) refl (rebuilt-leaves s t e vs vt (rowsIn rs))
+step-same s t e vs vt (ask q) = both-by s t e vs vt (ask q) (ask-same s t e vs vt q) (reply-seen s t e vs vt q) e
 step-same s t e vs vt (truncation k d) =
-    both-by s t e vs vt (truncation k d) (refusal-truncation s t e vs vt k d) (veil-cut s k d (slabTip s k) ∙ sym (veil-cut t k d (slabTip t k)))
-    (same-trans (same-sym (high-same s _)) (same-trans e (high-same t _)))
+    both-by s t e vs vt (truncation k d) (slab-same s t e vs vt k d) refl (same-trans (same-sym (high-same s _)) (same-trans e (high-same t _)))
 step-same s t e vs vt (report k d) = (
   report-seen s t e vs vt k d,
   same-trans (same-sym (unseen-effect s (report k d) (high-same s _))) (same-trans e (unseen-effect t (report k d) (high-same t _))),

@@ -10,6 +10,8 @@ use lib.ListN.{getD}
 use lib.Ieee.{Float}
 use borrow.Author.Tests.{eqb-true}
 use Rattle.refusal.proofs.Tests.{and-true}
+use Rattle.list_parts.specs.Parts.{part}
+use Rattle.list_parts.proofs.Parts.{part-at}
 use Rattle.address.specs.Address.{packing, slabs}
 use Rattle.marks.specs.Marks.{lastTaken, tipOf, countIf, isTaken}
 use Rattle.marks.proofs.LawsCount.{lastTaken-gt}
@@ -17,10 +19,11 @@ use Rattle.fragmentation.specs.Cutoff.{cutoff}
 use Rattle.fragmentation.proofs.LawsCutoff.{cutoff-le}
 use Rattle.model.specs.Defrag.{movesIn, movable, consIf, slabMoves, movesFrom, allMoves}
 use Rattle.model.specs.Store.{Store, Row}
-use Rattle.model.specs.Tables.{slotPlace, locationOf, inIds, part, live, slabTip}
-use Rattle.model.proofs.Tables.{slotPlace-packing, part-at}
+use Rattle.model.specs.Tables.{slotPlace, locationOf, inIds, live, slabTip}
+use Rattle.model.proofs.Sizes.{sized-sizes}
+use Rattle.model.proofs.Locations.{slotPlace-packing}
 use Rattle.histories.specs.Invariant.{Inv, Located}
-use Rattle.histories.proofs.Kept.{slabTip-le, sizes-of}
+use Rattle.histories.proofs.Kept.{slabTip-le}
 use Rattle.histories.proofs.Same.{Same, loc-same, inIds-same, same-sym}
 
 -- where the last taken is none, all are free
@@ -88,7 +91,7 @@ none-taken : (s : Store) → Inv s → (r : Float) (k n : ℕ) → n ≤ s .slot
 none-taken s v r k n h z =
     let a = cutoff-le (live s k) n r in
     no-moves s v k (cutoff (live s k) n r) (n - cutoff (live s k) n r) (omega arith)
-    (λ p q. sym (part-at (s .slots) (s .slotMarks) k p q) ∙ all-free (part (s .slots) (s .slotMarks) k) z p)
+    (λ p q. sym (part-at (s .slots) (s .slotMarks) k p 0 q) ∙ all-free (part (s .slots) (s .slotMarks) k) z p)
 
 slab-same : (s t : Store) → Same s t → Inv s → Inv t → (r : Float) (k : ℕ) → slabMoves s r k (slabTip s k) ≡ slabMoves t r k (slabTip t k)
 slab-same s t e vs vt r k = go (lastTaken ps) refl
@@ -100,13 +103,13 @@ slab-same s t e vs vt r k = go (lastTaken ps) refl
     parts = λ i. part (e .slots i) (e .slot-marks i) k
 
     go : (n : ℕ) → lastTaken ps ≡ n → slabMoves s r k (slabTip s k) ≡ slabMoves t r k (slabTip t k)
-    go zero z = none-taken s vs r k (slabTip s k) (slabTip-le s (sizes-of s (vs .is-sized) .slots-low) k) z
-        ∙ sym (none-taken t vt r k (slabTip t k) (slabTip-le t (sizes-of t (vt .is-sized) .slots-low) k) (ap lastTaken (sym parts) ∙ z))
+    go zero z = none-taken s vs r k (slabTip s k) (slabTip-le s (sized-sizes s (vs .is-sized) .range .slots-from) k) z
+        ∙ sym (none-taken t vt r k (slabTip t k) (slabTip-le t (sized-sizes t (vt .is-sized) .range .slots-from) k) (ap lastTaken (sym parts) ∙ z))
     go (suc n) z =
         let ts : slabTip s k ≡ suc n = ap (λ x. tipOf x (getD (s .tallies .used) (suc k) 0)) z in
         let tt′ : slabTip t k ≡ suc n = ap (λ x. tipOf x (getD (t .tallies .used) (suc k) 0)) (ap lastTaken (sym parts) ∙ z) in
         let lv : live s k ≡ live t k = ap (countIf isTaken) parts in
-        let b : suc n ≤ s .slots = rw ts at (slabTip-le s (sizes-of s (vs .is-sized) .slots-low) k) in
+        let b : suc n ≤ s .slots = rw ts at (slabTip-le s (sized-sizes s (vs .is-sized) .range .slots-from) k) in
         let a = cutoff-le (live s k) (suc n) r in
         ap (slabMoves s r k) ts
         ∙ moves-same s t e vs vt k (cutoff (live s k) (suc n) r) (suc n - cutoff (live s k) (suc n) r) (omega arith)

@@ -13,18 +13,22 @@ use lib.ListN.{length, set, drop, length-take, getD}
 use lib.Seq.{getD-drop}
 use borrow.Author.Tests.{ltb-false, leb-false, eq-eqb, lt-ltb, ne-eqb, leb-true}
 use Rattle.refusal.specs.Refusals.{wrongShape, batchOpen, noneFree}
+use Rattle.list_parts.specs.Parts.{part}
+use Rattle.list_parts.proofs.Parts.{part-here, part-there}
 use Rattle.sizes.specs.Sizes.{slabFor}
 use Rattle.address.specs.Address.{packing, slabs}
 use Rattle.marks.specs.Marks.{countIf, isFree, firstFree, smallestFree}
 use Rattle.marks.proofs.LawsFree.{firstFree-free, firstFree-least}
-use Rattle.model.specs.Batches.{asked, room, noClass, updates, idOf, place, spotFor, updatesOf, takenBy}
+use Rattle.model.specs.Batches.{asked, room, noClass, updates, idOf, place, spotFor, updatesIn, takenBy}
 use Rattle.model.specs.Ids.{nextId}
-use Rattle.model.specs.Step.{answer, grant, refusal, answerBy}
-use Rattle.model.specs.Store.{free, Update, Store, placed, put, offer, newId, gave, refused}
-use Rattle.model.specs.Tables.{slotPlace, part, write}
+use Rattle.model.specs.Step.{answer, grant, refusalOf, refusal, answerBy}
+use Rattle.model.specs.Store.{free, Update, Store, placed, put, offer, newId, gave}
+use Rattle.refusal.specs.Outcomes.{granted, refused}
+use Rattle.model.specs.Tables.{slotPlace, write}
 use Rattle.model.specs.Verdict.{ok, test, Verdict, refuse, _⨾_}
-use Rattle.model.proofs.Granted.{offer-granted, capacities-range, new-id-granted}
-use Rattle.model.proofs.Tables.{write-set, isLocation-packing, slotPlace-packing, part-here, part-there}
+use Rattle.model.proofs.Granted.{offer-granted, granted-sizes, new-id-granted}
+use Rattle.model.proofs.Locations.{isLocation-packing, slotPlace-packing}
+use Rattle.model.proofs.Writes.{write-set}
 use Rattle.model.proofs.Verdicts.{then-ok, test-ok, first-ok}
 use Rattle.histories.specs.Statements.{seen, InOrder, NewSlots, SmallestFree, NewIds, NoNewId}
 
@@ -119,17 +123,17 @@ all-placed cap t (put i n ∷ us) c k h = go (λ t′ q. all-placed cap t′ us 
 
 pub new-slots : NewSlots
 unfolding answer grant
-new-slots s is ss ns out ls = go (refusal s (offer is ss ns out)) refl
+new-slots s b ls = go (refusal s (offer b)) refl
   where
     us : List Update
-    us = updatesOf is ss ns
+    us = updatesIn b
 
-    go : (w : Verdict) → refusal s (offer is ss ns out) ≡ w → answerBy w (placed (takenBy s us)) ≡ placed ls → InOrder (s .slots) (s .slotMarks) us ls
+    go : (w : Verdict) → refusal s (offer b) ≡ w → answerBy w (placed (takenBy s us)) ≡ granted (placed ls) → InOrder (s .slots) (s .slotMarks) us ls
     go ok e q =
-        let o = offer-granted s is ss ns out e in
+        let o = offer-granted s b e in
         let same : takenBy s us ≡ ls = cc in
         subst (λ x. InOrder (s .slots) (s .slotMarks) us x) same
-        (all-placed (s .slots) (s .slotMarks) us (capacities-range (s .ids) (s .slots) (o .caps) .2) (classed s [] 0 us (o .fit))
+        (all-placed (s .slots) (s .slotMarks) us (o .tables .range .slots-to) (classed s [] 0 us (o .fit))
         (λ k b. room-enough (s .slots) (s .slotMarks) us slabs 0 (o .enough) k (omega arith) (omega arith)))
     go (refuse n i) e q = let z : _≡_ {A = ℕ} 0 1 = cc in absurd (omega arith)
 
@@ -149,7 +153,7 @@ pub new-ids : NewIds
 unfolding answer grant
 new-ids s n = go (refusal s newId) refl
   where
-    go : (w : Verdict) → refusal s newId ≡ w → answerBy w (gave (nextId s)) ≡ gave n → SmallestFree 1 n (s .idMarks)
+    go : (w : Verdict) → refusal s newId ≡ w → answerBy w (gave (nextId s)) ≡ granted (gave n) → SmallestFree 1 n (s .idMarks)
     go ok e q =
         let same : nextId s ≡ n = cc in
         subst (λ x. SmallestFree 1 x (s .idMarks)) same (smallest (s .idMarks) (new-id-granted s e))
@@ -164,7 +168,7 @@ last-met false false true e = (refl, refl)
 last-met false false false e = let z : _≡_ {A = ℕ} 0 1 = cc in absurd (omega arith)
 
 pub no-new-id : NoNewId
-unfolding answer grant refusal
+unfolding answer grant refusal refusalOf
 no-new-id s = go (refusal s newId) refl
   where
     go : (w : Verdict) → refusal s newId ≡ w → answerBy w (gave (nextId s)) ≡ refused noneFree 0 → (i : ℕ) → 1 ≤ i → i < s .ids → getD (s .idMarks) i 0 ≢ 0

@@ -5,9 +5,11 @@ use mathlib.Core.Bool.{true, false}
 use mathlib.Core.List.{List, [], _∷_}
 use Prim.Native.Nat.{ℕ, _*_, _≤_, _<_}
 use lib.ListN.{length, getD}
-use Rattle.address.specs.Address.{slabs, isLocation}
+use Rattle.list_parts.specs.Lists.{elem}
+use Rattle.address.specs.Address.{isLocation, slabs}
 use Rattle.model.specs.Store.{Store, Row}
-use Rattle.model.specs.Tables.{slotPlace, sized, kept, elem, idsOf, locationsOf}
+use Rattle.model.specs.Tables.{slotPlace, mostOpened, kept, idsOf, locationsOf}
+use Rattle.model.specs.Lending.{sized}
 
 -- id i is held, above 0, and owns the slot of its location l, which is held and in range
 pub record Located (cap : ℕ) (im sm ow : List ℕ) (i l : ℕ) : Type 0 where
@@ -50,6 +52,6 @@ pub record Good (cap : ℕ) (im lo sm ow : List ℕ) (ks : List Row) : Type 0 wh
 
 pub record Inv (s : Store) : Type 0 where
   pub is-sized : sized s ≡ true
-  pub few : s .batch .opened ≤ 257
+  pub few : s .batch .opened ≤ mostOpened
   pub tops : (k : ℕ) → getD (s .tallies .high) k 0 < s .slots
   pub good : Good (s .slots) (s .idMarks) (s .locations) (s .slotMarks) (s .owners) (kept s)

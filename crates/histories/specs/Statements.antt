@@ -8,20 +8,26 @@ use Prim.Native.Nat.{ℕ, suc, _+_, _-_, _*_, _/_, _%_, _^_, _≤_, _<_}
 use lib.Dec.{eqb}
 use lib.ListN.{length, getD, set, take}
 use lib.Ieee.{Float}
+use Rattle.refusal.specs.Outcomes.{granted, refused}
 use Rattle.refusal.specs.Refusals.{noneFree, nothingToCut}
+use Rattle.list_parts.specs.Lists.{elem}
+use Rattle.list_parts.specs.Parts.{part}
 use Rattle.sizes.specs.Sizes.{slabFor}
-use Rattle.address.specs.Address.{slabs, unit, packing}
+use Rattle.address.specs.Address.{unit, packing, slabs}
 use Rattle.marks.specs.Marks.{isFree, isTaken, countIf, tip}
-use Rattle.model.specs.Store.{Store, Update, put, free, Row, Call, newId, release, offer, commit, abandon, fresh, rebuild, lookup, counters, defrag, truncation, report}
-use Rattle.model.specs.Store.{Answer, refused, done, gave, placed, counts, moves, keep, cut}
+use Rattle.model.specs.Store.{Store, Update, put, free, Row, Offer, gave, placed, Answer}
+use Rattle.model.specs.Store.{Call, newId, release, offer, commit, abandon, fresh, rebuild, ask, truncation, report}
 use Rattle.model.specs.Verdict.{Verdict, ok, refuse}
-use Rattle.model.specs.Tables.{part, capacities, sized, locationOf, heldId, idsOf, locationsOf, elem, isOpen}
-use Rattle.model.specs.Batches.{updatesOf}
-use Rattle.model.specs.Rebuild.{rowsOf, freshStore}
+use Rattle.model.specs.Tables.{capacities, locationOf, heldId, idsOf, locationsOf, isOpen}
+use Rattle.model.specs.Lending.{everyTable, sized}
+use Rattle.model.specs.Batches.{updatesIn}
+use Rattle.model.specs.Rebuild.{rowsIn, columns, freshStore}
 use Rattle.model.specs.Defrag.{allMoves}
+use Rattle.model.specs.Questions.{asksHistory}
 use Rattle.model.specs.Step.{refusal, answer, next, after, state}
 use Rattle.model.specs.Memory.{Memory, read}
 use Rattle.model.specs.MemoryAfter.{memoryAfter}
+use Rattle.model.specs.Lent.{fits}
 use Rattle.histories.specs.Invariant.{Inv}
 
 -- ---- 1. the invariant (Reached.reached)
@@ -36,14 +42,12 @@ abbrev pub rowsBy : Verdict → Call → List Row → List Row
 rowsBy (refuse n i) c rs = rs
 rowsBy ok newId rs = rs
 rowsBy ok release rs = rs
-rowsBy ok (offer is ss ns out) rs = rs
+rowsBy ok (offer o) rs = rs
 rowsBy ok commit rs = rs
 rowsBy ok abandon rs = rs
 rowsBy ok fresh rs = []
-rowsBy ok (rebuild is ls) rs = rowsOf is ls
-rowsBy ok (lookup i) rs = rs
-rowsBy ok counters rs = rs
-rowsBy ok (defrag r is ls) rs = rs
+rowsBy ok (rebuild rows) rs = rowsIn rows
+rowsBy ok (ask q) rs = rs
 rowsBy ok (truncation k t) rs = rs
 rowsBy ok (report k t) rs = rs
 
@@ -83,7 +87,7 @@ pub record SmallestFree (from n : ℕ) (t : List ℕ) : Type 0 where
   pub none-smaller : (i : ℕ) → from ≤ i → i < n → getD t i 0 ≢ 0
 
 abbrev pub NewIds : Type 0
-NewIds = (s : Store) (n : ℕ) → answer s newId ≡ gave n → SmallestFree 1 n (s .idMarks)
+NewIds = (s : Store) (n : ℕ) → answer s newId ≡ granted (gave n) → SmallestFree 1 n (s .idMarks)
 
 -- refused with 10 only where no id above 0 is free
 abbrev pub NoNewId : Type 0
@@ -99,51 +103,35 @@ InOrder cap t (put i n ∷ us) (l ∷ ls) =
 InOrder cap t (free i ∷ us) (l ∷ ls) = (l ≡ 0) × InOrder cap t us ls
 
 abbrev pub NewSlots : Type 0
-NewSlots = (s : Store) (is : List ℕ) (ss : List Bool) (ns out ls : List ℕ) → answer s (offer is ss ns out) ≡ placed ls
-    → InOrder (s .slots) (s .slotMarks) (updatesOf is ss ns) ls
+NewSlots = (s : Store) (o : Offer) (ls : List ℕ) → answer s (offer o) ≡ granted (placed ls) → InOrder (s .slots) (s .slotMarks) (updatesIn o) ls
 
 -- ---- 4. demand 3
 
--- what is seen of an answer: counters, truncation answers and cut reports remember history and are excepted
+-- the calls whose answers remember history, and are excepted: counters, truncation answers and cut reports
+abbrev pub remembers : Call → Bool
+remembers newId = false
+remembers release = false
+remembers (offer o) = false
+remembers commit = false
+remembers abandon = false
+remembers fresh = false
+remembers (rebuild rs) = false
+remembers (ask q) = asksHistory q
+remembers (truncation k t) = true
+remembers (report k t) = true
+
+-- what is seen of an answer
 pub data Seen : Type 0 where
   shown : Answer → Seen
   excepted : Seen
 
--- of an excepted answer a refusal is still seen
+-- of an excepted answer a refusal is still seen, but not whether the test of a cut report says keep
 abbrev pub veil : Answer → Seen
-veil (refused n i) = shown (refused n i)
-veil done = excepted
-veil (gave n) = excepted
-veil (placed ls) = excepted
-veil (counts g f z) = excepted
-veil (moves ms) = excepted
-veil keep = excepted
-veil (cut n b) = excepted
-
--- but of a cut report not whether the test says keep
-abbrev pub veilReport : Answer → Seen
-veilReport (refused n i) = cond (eqb n nothingToCut) excepted (shown (refused n i))
-veilReport done = excepted
-veilReport (gave n) = excepted
-veilReport (placed ls) = excepted
-veilReport (counts g f z) = excepted
-veilReport (moves ms) = excepted
-veilReport keep = excepted
-veilReport (cut n b) = excepted
+veil (granted g) = excepted
+veil (refused n i) = cond (eqb n nothingToCut) excepted (shown (refused n i))
 
 abbrev pub seen : Call → Answer → Seen
-seen newId a = shown a
-seen release a = shown a
-seen (offer is ss ns out) a = shown a
-seen commit a = shown a
-seen abandon a = shown a
-seen fresh a = shown a
-seen (rebuild is ls) a = shown a
-seen (lookup i) a = shown a
-seen counters a = veil a
-seen (defrag r is ls) a = shown a
-seen (truncation k t) a = veil a
-seen (report k t) a = veilReport a
+seen c a = cond (remembers c) (veil a) (shown a)
 
 abbrev pub answers : Store → List Call → List Seen
 answers s [] = []
@@ -173,8 +161,8 @@ RebuildAgrees =
     (n m : ℕ) (h : List Call) (rs : List Row) (memory : Store) →
     capacities n m ≡ true → AtRest (state n m h) → LiveRows (state n m h) rs →
     memory .ids ≡ n → memory .slots ≡ m → sized memory ≡ true →
-    (refusal memory (rebuild (idsOf rs) (locationsOf rs)) ≡ ok) ×
-    ((later : List Call) → answers (next memory (rebuild (idsOf rs) (locationsOf rs))) later ≡ answers (state n m h) later)
+    (refusal memory (rebuild (columns rs)) ≡ ok) ×
+    ((later : List Call) → answers (next memory (rebuild (columns rs))) later ≡ answers (state n m h) later)
 
 -- a batch is open before each of these calls, and after the last
 abbrev pub StaysOpen : Store → List Call → Type 0
@@ -194,10 +182,10 @@ grantedOf s (c ∷ cs) = keepIf (refusal s c) c (grantedOf (next s c) cs)
 -- offered and only the calls granted in between had been made
 abbrev pub AbandonAgrees : Type 0
 AbandonAgrees =
-    (n m : ℕ) (h : List Call) (is : List ℕ) (ss : List Bool) (ns out : List ℕ) (between later : List Call) →
-    capacities n m ≡ true → refusal (state n m h) (offer is ss ns out) ≡ ok → StaysOpen (next (state n m h) (offer is ss ns out)) between →
-    answers (next (after (next (state n m h) (offer is ss ns out)) between) abandon) later
-    ≡ answers (after (state n m h) (grantedOf (next (state n m h) (offer is ss ns out)) between)) later
+    (n m : ℕ) (h : List Call) (o : Offer) (between later : List Call) →
+    capacities n m ≡ true → refusal (state n m h) (offer o) ≡ ok → StaysOpen (next (state n m h) (offer o)) between →
+    answers (next (after (next (state n m h) (offer o)) between) abandon) later
+    ≡ answers (after (state n m h) (grantedOf (next (state n m h) (offer o)) between)) later
 
 -- (Lent.memory-agrees, Lent.rebuild-agrees-lent) the same of the lent tables, whatever they hold: a sequence of calls on them is answered
 -- as on the store that is read from them, so after a rebuild in any memory of the right lengths no later answer differs
@@ -208,22 +196,13 @@ answersIn m (c ∷ cs) = seen c (answer (read m) c) ∷ answersIn (memoryAfter m
 abbrev pub MemoryAgrees : Type 0
 MemoryAgrees = (m : Memory) (cs : List Call) → answersIn m cs ≡ answers (read m) cs
 
--- the lengths of the six tables
-pub record Lengths (m : Memory) : Type 0 where
-  pub id-marks : length (m .idMarks) ≡ m .ids
-  pub locations : length (m .locations) ≡ m .ids
-  pub slot-marks : length (m .slotMarks) ≡ slabs * m .slots
-  pub owners : length (m .owners) ≡ slabs * m .slots
-  pub batch : length (m .batch) ≡ 513
-  pub tallies : length (m .tallies) ≡ 473
-
 abbrev pub RebuildAgreesLent : Type 0
 RebuildAgreesLent =
     (n m : ℕ) (h : List Call) (rs : List Row) (memory : Memory) →
     capacities n m ≡ true → AtRest (state n m h) → LiveRows (state n m h) rs →
-    memory .ids ≡ n → memory .slots ≡ m → Lengths memory →
-    (refusal (read memory) (rebuild (idsOf rs) (locationsOf rs)) ≡ ok) ×
-    ((later : List Call) → answersIn (memoryAfter memory (rebuild (idsOf rs) (locationsOf rs))) later ≡ answers (state n m h) later)
+    memory .ids ≡ n → memory .slots ≡ m → fits everyTable memory ≡ true →
+    (refusal (read memory) (rebuild (columns rs)) ≡ ok) ×
+    ((later : List Call) → answersIn (memoryAfter memory (rebuild (columns rs))) later ≡ answers (state n m h) later)
 
 -- (LiveRows.rows-exist) the rows that a rebuild wants can always be had
 abbrev pub RowsExist : Type 0
@@ -236,9 +215,9 @@ RebuildMet = (h : List Call) × (rs : List Row) × AtRest (state 9 4 h) × LiveR
 
 abbrev pub AbandonMet : Type 0
 AbandonMet =
-    (h : List Call) × (is : List ℕ) × (ss : List Bool) × (ns : List ℕ) × (out : List ℕ) × (between : List Call) ×
-    (refusal (state 9 4 h) (offer is ss ns out) ≡ ok) × StaysOpen (next (state 9 4 h) (offer is ss ns out)) between ×
-    (length between ≡ 2) × (length (grantedOf (next (state 9 4 h) (offer is ss ns out)) between) ≡ 1)
+    (h : List Call) × (o : Offer) × (between : List Call) ×
+    (refusal (state 9 4 h) (offer o) ≡ ok) × StaysOpen (next (state 9 4 h) (offer o)) between ×
+    (length between ≡ 2) × (length (grantedOf (next (state 9 4 h) (offer o)) between) ≡ 1)
 
 -- ---- 5. a defrag list fits its lent lists (MovesFit.moves-fit), whatever the tables hold
 
