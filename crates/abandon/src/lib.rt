@@ -1,8 +1,8 @@
 // Abandon: the open batch is dropped, and the slots that its offer took are free again (document 01, "Ids, slots, pending").
 //
 //     match abandon::abandon(caps, &mut slot_marks, &mut batch, &mut tallies) {
-//         Abandoned::Done => ..,
-//         Abandoned::Refused(refusal) => ..,  // 1; 12, no batch is open; 13 with the update's index; nothing is written
+//         Finished::Done => ..,
+//         Finished::Refused(refusal) => ..,  // 1; 12, no batch is open; 13 with the update's index; nothing is written
 //     }
 //
 // Batches that no offer made are legal input: an update whose id or location is out of range gives 13, and a slot that is there
@@ -11,56 +11,37 @@ ghost use mathlib.Core.Bool.{false};
 ghost use mathlib.Core.Path.{_≡_};
 ghost use Prim.Native.Nat.{_*_, pred};
 ghost use lib.ListN.{length, getD};
-ghost use Rattle.address.specs.Address.{slabs, badSlots};
-ghost use Rattle.model.specs.Store.{abandon};
+ghost use Rattle.address.specs.Address.{badSlots, slabs};
+ghost use Rattle.model.specs.Store.{abandon, finishedAnswer};
 ghost use Rattle.model.specs.Tables.{locationsOf};
 ghost use Rattle.model.specs.Memory.{Memory, read};
-ghost use Rattle.model.specs.MemoryAfter.{Slots, giveSlot, giveSlots, memoryAfter};
-ghost use Rattle.model.specs.Step.{refusal, answer};
+ghost use Rattle.model.specs.MemoryAfter.{Slots, giveSlot, giveSlots};
+ghost use Rattle.model.specs.Step.{refusal};
 ghost use Rattle.batch_kept.specs.Kept.{keptFrom, badKeptRow, firstBad, rowsAs};
-ghost use Rattle.abandon.specs.Abandon.{abandonMemory, abandonedAnswer};
+ghost use Rattle.model.specs.Lent.{lentTo, answered, leaves};
 use address::SlabAddress;
 use address::Unpacked;
 use batch_kept::Rows;
+use refusal::Finished;
 use refusal::Refusal;
 use tables::Capacities;
 use tables::FREED;
 use tables::HINT;
-use tables::KEPT_IDS;
 use tables::KEPT_LOCATIONS;
-
-pub enum Abandoned {
-    Done,
-    Refused(Refusal),
-}
-
-// The n kept updates, or 13 for the first that is out of range.
-fn check_rows(caps: Capacities, batch: &[u64], n: usize) -> Rows
-    ensures { λ r. ⌜ r ≡ rowsAs (firstBad (badKeptRow (caps .ids) (caps .slots)) 0 (keptFrom (now (batch .entry)) n 0)) n ⌝ }
-{
-    let ids = caps.ids;
-    let slots = caps.slots;
-    let mut i: usize = 0;
-    while i < n {
-        let id = tables::get(batch, KEPT_IDS, i);
-        let location = tables::get(batch, KEPT_LOCATIONS, i);
-        if batch_kept::bad_kept(ids, slots, id, location) {
-            return Rows::Refused(Refusal::at(Refusal::TABLES_DISAGREE, i));
-        }
-        i += 1;
-    }
-    Rows::Count(n)
-}
 
 // How many kept updates are to be abandoned, or why none. Nothing is written.
 fn check(caps: Capacities, slot_marks: &[u8], batch: &[u64], tallies: &[u64]) -> Rows
-    ensures { λ r. ⌜ r ≡ rowsAs (refusal (read (abandonMemory (caps .ids) (caps .slots) (now («slot_marks» .entry)) (now (batch .entry)) (now (tallies .entry)))) abandon) (pred (getD (now (batch .entry)) 0 0)) ⌝ }
+    ensures { λ r. ⌜ r
+        ≡ rowsAs (refusal (read (lentTo abandon (caps .ids) (caps .slots)
+        (now («slot_marks» .entry))
+        (now (batch .entry))
+        (now (tallies .entry)))) abandon) (pred (getD (now (batch .entry)) 0 0)) ⌝ }
 {
     if !tables::slab_fits(caps, slot_marks.len(), batch.len(), tallies.len()) {
         return Rows::Refused(Refusal::of(Refusal::WRONG_SHAPE));
     }
     match batch_kept::opened(batch) {
-        Rows::Count(n) => check_rows(caps, batch, n),
+        Rows::Count(n) => batch_kept::in_range(caps.ids, caps.slots, batch, n),
         Rows::Refused(refusal) => Rows::Refused(refusal),
     }
 }
@@ -68,7 +49,8 @@ fn check(caps: Capacities, slot_marks: &[u8], batch: &[u64], tallies: &[u64]) ->
 // The slot of a location is given back; where that is none, nothing is written.
 fn give_slot(slots: usize, slot_marks: &mut [u8], tallies: &mut [u64], location: u64)
     requires { ⌜ (badSlots slots ≡ false) × (length (now «slot_marks») ≡ slabs * slots) ⌝ }
-    ensures { λ _. ⌜ _≡_ {A = Slots} (record { marks = now («slot_marks» .exit); words = now (tallies .exit) }) (giveSlot slots (record { marks = now («slot_marks» .entry); words = now (tallies .entry) }) location) ⌝ }
+    ensures { λ _. ⌜ _≡_ {A = Slots} (record { marks = now («slot_marks» .exit); words = now (tallies .exit) })
+        (giveSlot slots (record { marks = now («slot_marks» .entry); words = now (tallies .entry) }) location) ⌝ }
 {
     let Unpacked::At(address) = SlabAddress::unpack(slots, location) else {
         return;
@@ -86,7 +68,9 @@ fn give_slot(slots: usize, slot_marks: &mut [u8], tallies: &mut [u64], location:
 // The slots of the n kept updates are given back, in list order.
 fn give_slots(slots: usize, slot_marks: &mut [u8], batch: &[u64], tallies: &mut [u64], n: usize)
     requires { ⌜ (badSlots slots ≡ false) × (length (now «slot_marks») ≡ slabs * slots) ⌝ }
-    ensures { λ _. ⌜ _≡_ {A = Slots} (record { marks = now («slot_marks» .exit); words = now (tallies .exit) }) (giveSlots slots (record { marks = now («slot_marks» .entry); words = now (tallies .entry) }) (locationsOf (keptFrom (now (batch .entry)) n 0))) ⌝ }
+    ensures { λ _. ⌜ _≡_ {A = Slots} (record { marks = now («slot_marks» .exit); words = now (tallies .exit) })
+        (giveSlots slots (record { marks = now («slot_marks» .entry); words = now (tallies .entry) })
+        (locationsOf (keptFrom (now (batch .entry)) n 0))) ⌝ }
 {
     let mut i: usize = 0;
     while i < n {
@@ -101,17 +85,28 @@ pub fn abandon(
     slot_marks: &mut [u8],
     batch: &mut [u64],
     tallies: &mut [u64],
-) -> Abandoned
-    ensures answers { λ r. ⌜ abandonedAnswer r ≡ answer (read (abandonMemory (caps .ids) (caps .slots) (now («slot_marks» .entry)) (now (batch .entry)) (now (tallies .entry)))) abandon ⌝ }
-    ensures leaves { λ r. ⌜ _≡_ {A = Memory} (abandonMemory (caps .ids) (caps .slots) (now («slot_marks» .exit)) (now (batch .exit)) (now (tallies .exit))) (memoryAfter (abandonMemory (caps .ids) (caps .slots) (now («slot_marks» .entry)) (now (batch .entry)) (now (tallies .entry))) abandon) ⌝ }
+) -> Finished
+    ensures answers { λ r. ⌜ finishedAnswer r
+        ≡ answered abandon (caps .ids) (caps .slots)
+        (now («slot_marks» .entry))
+        (now (batch .entry))
+        (now (tallies .entry)) ⌝ }
+    ensures leaves { λ r. ⌜ _≡_ {A = Memory} (lentTo abandon (caps .ids) (caps .slots)
+        (now («slot_marks» .exit))
+        (now (batch .exit))
+        (now (tallies .exit)))
+        (leaves abandon (caps .ids) (caps .slots)
+        (now («slot_marks» .entry))
+        (now (batch .entry))
+        (now (tallies .entry))) ⌝ }
 {
     match check(caps, slot_marks, batch, tallies) {
-        Rows::Refused(refusal) => Abandoned::Refused(refusal),
+        Rows::Refused(refusal) => Finished::Refused(refusal),
         Rows::Count(n) => {
             let slots = caps.slots;
             give_slots(slots, slot_marks, batch, tallies, n);
             tables::put(batch, 0, 0, 0);
-            Abandoned::Done
+            Finished::Done
         }
     }
 }

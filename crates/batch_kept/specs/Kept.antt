@@ -10,6 +10,8 @@ use Rattle.address.specs.Address.{unpacked}
 use Rattle.address.specs.declared.Unpacked.{Unpacked}
 use Rattle.address.specs.declared.Unpacked.the-variants as U
 use Rattle.model.specs.Store.{Row}
+use Rattle.model.specs.Tables.{mostOpened}
+use Rattle.model.specs.Memory.{keptIdsAt, keptLocationsAt}
 use Rattle.model.specs.Verdict.{Verdict, ok, refuse, _⨾_, test}
 use Rattle.batch_kept.specs.declared.Rows.{Rows}
 use Rattle.batch_kept.specs.declared.Rows.the-variants as R
@@ -18,16 +20,20 @@ use Rattle.batch_kept.specs.declared.Rows.the-variants as R
 abbrev pub countBy : ℕ → Rows
 countBy opened =
     cond (eqb opened 0) (R.Refused (refusal noBatch 0))
-    (cond (ltb 257 opened) (R.Refused (refusal tablesDisagree 0))
+    (cond (ltb mostOpened opened) (R.Refused (refusal tablesDisagree 0))
     (R.Count (opened - 1)))
 
 unfoldable pub countOf : List ℕ → Rows
 countOf b = countBy (getD b 0 0)
 
--- n of the kept updates, from i on
+-- the kept update i
+abbrev pub keptRow : List ℕ → ℕ → Row
+keptRow b i = (getD b (keptIdsAt + i) 0, getD b (keptLocationsAt + i) 0)
+
+-- n of them, from i on
 unfoldable pub keptFrom : List ℕ → ℕ → ℕ → List Row
 keptFrom b zero i = []
-keptFrom b (suc n) i = (getD b (1 + i) 0, getD b (257 + i) 0) ∷ keptFrom b n (suc i)
+keptFrom b (suc n) i = keptRow b i ∷ keptFrom b n (suc i)
 
 -- a location that is neither 0 nor an address
 abbrev pub noAddress : Unpacked → Bool
@@ -56,6 +62,11 @@ rowsThen (R.Count n) v = v
 abbrev pub rowsAs : Verdict → ℕ → Rows
 rowsAs ok n = R.Count n
 rowsAs (refuse number index) n = R.Refused (refusal number index)
+
+-- how many updates come before the one that is refused; all of them where none is
+abbrev pub rowsBefore : Rows → ℕ
+rowsBefore (R.Count n) = n
+rowsBefore (R.Refused r) = r .index
 
 -- what stands at an address, by its allocator and its slot, and d where there is none
 abbrev pub byAddress : {A : Type 0} → (ℕ → ℕ → A) → A → Unpacked → A

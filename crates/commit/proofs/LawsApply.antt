@@ -6,12 +6,13 @@ use native.Mathlib.Nat.{zero-add}
 use native.Mathlib.Numerals.{add-one}
 use lib.ListN.{getD, set, take, drop}
 use borrow.Rule.Slice.PartMut.{putMid}
+use Rattle.list_parts.proofs.Parts.{part-range, putPart-range}
 use Rattle.id_allocator.specs.Counted.{settle}
 use Rattle.model.specs.Tables.{write}
-use Rattle.model.specs.Memory.{Memory, getWord, waitingWords}
+use Rattle.model.specs.Memory.{Memory, keptIdsAt, keptLocationsAt, getWord, putWord, waitingWords}
 use Rattle.model.specs.MemoryAfter.{Slots, slotsOf, withSlots, withOwned, readyBy, readySlab, pendSlot, readyMarks, readyWords, pendOld, commitRow, commitAll}
 use Rattle.batch_kept.specs.Kept.{keptFrom}
-use Rattle.batch_kept.proofs.Laws.{keptFrom-next, keptFrom-none, slab-part, put-slab}
+use Rattle.batch_kept.proofs.Laws.{keptFrom-next, keptFrom-none}
 
 -- ---- ready
 pub readyMarks-busy : (w : ℕ) (ms : List ℕ) → (w ≡ 0 → ⊥) → readyMarks w ms ≡ ms
@@ -28,16 +29,16 @@ readyBy-busy cap k s (suc w) h = refl
 
 module _ (cap k : ℕ) (s : Slots) where
   -- the slab's waiting word, where the code finds it
-  waits : getD (s .words) (316 + (k + 1)) 0 ≡ getWord (s .words) waitingWords (suc k)
+  waits : getWord (s .words) waitingWords (k + 1) ≡ getWord (s .words) waitingWords (suc k)
   waits = rw (add-one k)
 
-  pub slab-busy : (getD (s .words) (316 + (k + 1)) 0 ≡ 0 → ⊥) → s ≡ readySlab cap k s
+  pub slab-busy : (getWord (s .words) waitingWords (k + 1) ≡ 0 → ⊥) → s ≡ readySlab cap k s
   slab-busy h = sym (readyBy-busy cap k s (getWord (s .words) waitingWords (suc k)) (λ z. h (waits ∙ z)))
 
-  pub slab-quiet : (p : List ℕ) → getD (s .words) (316 + (k + 1)) 0 ≡ 0 → p ≡ map settle (take (k * cap + cap - k * cap) (drop (k * cap) (s .marks)))
-      → _≡_ {A = Slots} (record { marks = putMid (k * cap) (k * cap + cap - k * cap) (s .marks) p; words = set (s .words) (316 + (k + 1)) 1 }) (readySlab cap k s)
+  pub slab-quiet : (p : List ℕ) → getWord (s .words) waitingWords (k + 1) ≡ 0 → p ≡ map settle (take (k * cap + cap - k * cap) (drop (k * cap) (s .marks)))
+      → _≡_ {A = Slots} (record { marks = putMid (k * cap) (k * cap + cap - k * cap) (s .marks) p; words = putWord (s .words) waitingWords (k + 1) 1 }) (readySlab cap k s)
   slab-quiet p z e =
-      rw (put-slab cap k (s .marks) p, e, slab-part cap k (s .marks), add-one k) (sym (ap (readyBy cap k s) (sym waits ∙ z)))
+      rw (putPart-range cap (s .marks) k p, e, part-range cap (s .marks) k, add-one k) (sym (ap (readyBy cap k s) (sym waits ∙ z)))
 
 -- ---- one row
 commitRow-store : (m : Memory) (i l o : ℕ) → (l ≡ 0 → ⊥)
@@ -45,16 +46,20 @@ commitRow-store : (m : Memory) (i l o : ℕ) → (l ≡ 0 → ⊥)
 commitRow-store m i zero o h = absurd (h refl)
 commitRow-store m i (suc l) o h = refl
 
--- the row as it stands in the batch: id, new location, old location
-row-read : (m : Memory) (b : List ℕ) (j i l o : ℕ) → i ≡ getD b (1 + j) 0 → l ≡ getD b (257 + j) 0 → o ≡ getD (m .locations) (0 + i) 0
-    → commitRow m i l o ≡ commitRow m (getD b (1 + j) 0) (getD b (257 + j) 0) (getD (m .locations) (getD b (1 + j) 0) 0)
+-- the kept update j, as it stands in the batch: id, new location, old location
+abbrev keptApplied : Memory → List ℕ → ℕ → Memory
+keptApplied m b j = commitRow m (getD b (keptIdsAt + j) 0) (getD b (keptLocationsAt + j) 0) (getD (m .locations) (getD b (keptIdsAt + j) 0) 0)
+
+row-read : (m : Memory) (b : List ℕ) (j i l o : ℕ) → i ≡ getD b (keptIdsAt + j) 0 → l ≡ getD b (keptLocationsAt + j) 0 → o ≡ getD (m .locations) (0 + i) 0
+    → commitRow m i l o ≡ keptApplied m b j
 row-read m b j i l o ei el eo =
     let old = eo ∙ ap (λ x. getD (m .locations) x 0) (zero-add i ∙ ei) in
     λ k. commitRow m (ei k) (el k) (old k)
 
-module _ (m : Memory) (b : List ℕ) (j i l o : ℕ) (ri : i ≡ getD b (1 + j) 0) (rl : l ≡ getD b (257 + j) 0) (ro : o ≡ getD (m .locations) (0 + i) 0) (locations marks words owners : List ℕ) where
+module _ (m : Memory) (b : List ℕ) (j i l o : ℕ) (ri : i ≡ getD b (keptIdsAt + j) 0) (rl : l ≡ getD b (keptLocationsAt + j) 0)
+    (ro : o ≡ getD (m .locations) (0 + i) 0) (locations marks words owners : List ℕ) where
   abbrev Row : Memory
-  Row = commitRow m (getD b (1 + j) 0) (getD b (257 + j) 0) (getD (m .locations) (getD b (1 + j) 0) 0)
+  Row = keptApplied m b j
 
   pub row-store : (l ≡ 0 → ⊥) → locations ≡ set (m .locations) (0 + i) l → _≡_ {A = Slots} (record { marks = marks; words = words }) (pendSlot (m .slots) (slotsOf m) o)
       → owners ≡ write (m .slots) l i (m .owners)
@@ -94,11 +99,11 @@ module _ (m : Memory) (b : List ℕ) (j i l o : ℕ) (ri : i ≡ getD b (1 + j) 
 -- ---- all rows
 module _ (m : Memory) (b : List ℕ) (n i : ℕ) where
   commit-next : i < n → commitAll m (keptFrom b (n - i) i)
-      ≡ commitAll (commitRow m (getD b (1 + i) 0) (getD b (257 + i) 0) (getD (m .locations) (getD b (1 + i) 0) 0)) (keptFrom b (n - (i + 1)) (i + 1))
+      ≡ commitAll (keptApplied m b i) (keptFrom b (n - (i + 1)) (i + 1))
   commit-next h = ap (commitAll m) (keptFrom-next b n i h)
 
   -- the rows left, after the row at i, make what the rows from i on make
-  pub commit-turn : (x whole : Memory) → i < n → x ≡ commitRow m (getD b (1 + i) 0) (getD b (257 + i) 0) (getD (m .locations) (getD b (1 + i) 0) 0)
+  pub commit-turn : (x whole : Memory) → i < n → x ≡ keptApplied m b i
       → commitAll m (keptFrom b (n - i) i) ≡ whole → commitAll x (keptFrom b (n - (i + 1)) (i + 1)) ≡ whole
   commit-turn x whole h e all = ap (λ (y : Memory). commitAll y (keptFrom b (n - (i + 1)) (i + 1))) e ∙ sym (commit-next h) ∙ all
 

@@ -3,38 +3,56 @@ ghost use mathlib.Core.Path.{_≡_};
 ghost use Prim.Native.Nat.{pred};
 ghost use lib.ListN.{getD};
 ghost use Rattle.model.specs.Store.{commit};
-ghost use Rattle.model.specs.Memory.{read, memoryOf};
+ghost use Rattle.model.specs.Memory.{read};
+ghost use Rattle.model.specs.Lent.{lentTo};
 ghost use Rattle.model.specs.Step.{refusal};
-ghost use Rattle.batch_kept.specs.Kept.{keptFrom, firstBad, rowsAs};
-ghost use Rattle.commit.specs.Commit.{badUpdate, rowBad};
+ghost use Rattle.batch_kept.specs.Kept.{keptFrom, firstBad, rowsAs, rowsBefore};
+ghost use Rattle.commit.specs.Commit.{notOwn, rowBad};
 use batch_kept::Rows;
 use refusal::Refusal;
 use tables::Capacities;
 use tables::KEPT_IDS;
-use tables::KEPT_LOCATIONS;
 
-// Whether a kept update cannot be committed: it is out of range, or the id's present location cannot be its own.
-fn bad_update(
-    caps: Capacities,
+// How many updates come before the one that is refused.
+fn rows_before(said: Rows) -> usize
+    ensures { λ r. ⌜ r ≡ rowsBefore said ⌝ }
+{
+    match said {
+        Rows::Count(n) => n,
+        Rows::Refused(refusal) => refusal.index,
+    }
+}
+
+// The first n kept updates, or 13 for the first of them whose id's present location cannot be its own.
+fn own_rows(
+    slots: usize,
     locations: &[u64],
     slot_marks: &[u8],
     owners: &[u64],
+    batch: &[u64],
     tallies: &[u64],
-    id: u64,
-    location: u64,
-) -> bool
-    ensures { λ r. ⌜ r ≡ badUpdate (caps .ids) (caps .slots) (now (locations .entry)) (now («slot_marks» .entry)) (now (owners .entry)) (now (tallies .entry)) id location ⌝ }
+    n: usize,
+) -> Rows
+    ensures { λ r. ⌜ r
+        ≡ rowsAs (firstBad (notOwn slots
+        (now (locations .entry))
+        (now («slot_marks» .entry))
+        (now (owners .entry))
+        (now (tallies .entry))) 0 (keptFrom (now (batch .entry)) n 0)) n ⌝ }
 {
-    let ids = caps.ids;
-    let slots = caps.slots;
-    if batch_kept::bad_kept(ids, slots, id, location) {
-        return true;
+    let mut i: usize = 0;
+    while i < n {
+        let id = tables::get(batch, KEPT_IDS, i);
+        let old = tables::get(locations, 0, id as usize);
+        if tables::bad_location(slots, slot_marks, owners, tallies, id, old) {
+            return Rows::Refused(Refusal::at(Refusal::TABLES_DISAGREE, i));
+        }
+        i += 1;
     }
-    let old = tables::get(locations, 0, id as usize);
-    tables::bad_location(slots, slot_marks, owners, tallies, id, old)
+    Rows::Count(n)
 }
 
-// The n kept updates, or 13 for the first that cannot be committed.
+// The n kept updates, or 13 for the first that cannot be committed: it is out of range, or the id's present location cannot be its own.
 fn check_rows(
     caps: Capacities,
     locations: &[u64],
@@ -44,16 +62,28 @@ fn check_rows(
     tallies: &[u64],
     n: usize,
 ) -> Rows
-    ensures { λ r. ⌜ r ≡ rowsAs (firstBad (rowBad (caps .ids) (caps .slots) (now (locations .entry)) (now («slot_marks» .entry)) (now (owners .entry)) (now (tallies .entry))) 0 (keptFrom (now (batch .entry)) n 0)) n ⌝ }
+    ensures { λ r. ⌜ r
+        ≡ rowsAs (firstBad (rowBad (caps .ids) (caps .slots)
+        (now (locations .entry))
+        (now («slot_marks» .entry))
+        (now (owners .entry))
+        (now (tallies .entry))) 0 (keptFrom (now (batch .entry)) n 0)) n ⌝ }
 {
-    let mut i: usize = 0;
-    while i < n {
-        let id = tables::get(batch, KEPT_IDS, i);
-        let location = tables::get(batch, KEPT_LOCATIONS, i);
-        if bad_update(caps, locations, slot_marks, owners, tallies, id, location) {
-            return Rows::Refused(Refusal::at(Refusal::TABLES_DISAGREE, i));
-        }
-        i += 1;
+    let said = batch_kept::in_range(caps.ids, caps.slots, batch, n);
+    // a row that is out of range, and what comes after it, is not asked for its location
+    let end = rows_before(said);
+    let own = own_rows(
+        caps.slots,
+        locations,
+        slot_marks,
+        owners,
+        batch,
+        tallies,
+        end,
+    );
+    let first = rows_before(own);
+    if first < n {
+        return Rows::Refused(Refusal::at(Refusal::TABLES_DISAGREE, first));
     }
     Rows::Count(n)
 }
@@ -68,7 +98,14 @@ pub(crate) fn check(
     batch: &[u64],
     tallies: &[u64],
 ) -> Rows
-    ensures { λ r. ⌜ r ≡ rowsAs (refusal (read (memoryOf (caps .ids) (caps .slots) (now («id_marks» .entry)) (now (locations .entry)) (now («slot_marks» .entry)) (now (owners .entry)) (now (batch .entry)) (now (tallies .entry)))) commit) (pred (getD (now (batch .entry)) 0 0)) ⌝ }
+    ensures { λ r. ⌜ r
+        ≡ rowsAs (refusal (read (lentTo commit (caps .ids) (caps .slots)
+        (now («id_marks» .entry))
+        (now (locations .entry))
+        (now («slot_marks» .entry))
+        (now (owners .entry))
+        (now (batch .entry))
+        (now (tallies .entry)))) commit) (pred (getD (now (batch .entry)) 0 0)) ⌝ }
 {
     if !tables::all_fit(
         caps,

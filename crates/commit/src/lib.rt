@@ -1,8 +1,8 @@
 // Commit: the open batch takes effect (document 01, "Ids, slots, pending").
 //
 //     match commit::commit(caps, &mut id_marks, &mut locations, &mut slot_marks, &mut owners, &mut batch, &mut tallies) {
-//         Committed::Done => ..,
-//         Committed::Refused(refusal) => ..,  // 1; 12, no batch is open; 13 with the update's index; nothing is written
+//         Finished::Done => ..,
+//         Finished::Refused(refusal) => ..,  // 1; 12, no batch is open; 13 with the update's index; nothing is written
 //     }
 //
 // All kept updates are checked against the tables as they are found (check.rt), then applied in list order, where nothing can
@@ -14,33 +14,31 @@ ghost use mathlib.Core.Bool.{false};
 ghost use mathlib.Core.Path.{_≡_};
 ghost use Prim.Native.Nat.{_+_, _*_, _<_};
 ghost use lib.ListN.{length, getD};
-ghost use Rattle.address.specs.Address.{slabs, badSlots};
-ghost use Rattle.model.specs.Store.{commit};
+ghost use Rattle.address.specs.Address.{badSlots, slabs};
+ghost use Rattle.model.specs.Store.{commit, finishedAnswer};
 ghost use Rattle.model.specs.Tables.{write};
-ghost use Rattle.model.specs.Memory.{Memory, read, getWord, waitingWords, memoryOf};
-ghost use Rattle.model.specs.MemoryAfter.{memoryAfter, Slots, readySlab, pendSlot, readyMarks, readyWords, commitRow, commitAll};
-ghost use Rattle.model.specs.Step.{answer};
+ghost use Rattle.model.specs.Memory.{Memory, getWord, waitingWords, keptIdsAt, keptLocationsAt};
+ghost use Rattle.model.specs.Lent.{lentTo, answered, leaves};
+ghost use Rattle.model.specs.MemoryAfter.{Slots, readySlab, pendSlot, readyMarks, readyWords, commitRow, commitAll};
 ghost use Rattle.batch_kept.specs.Kept.{keptFrom};
-ghost use Rattle.commit.specs.Commit.{committedAnswer};
 use address::SlabAddress;
 use address::Unpacked;
 use batch_kept::Rows;
 use check::check;
 use marks::PENDING;
+use refusal::Finished;
 use refusal::Refusal;
 use tables::Capacities;
 use tables::KEPT_IDS;
 use tables::KEPT_LOCATIONS;
 use tables::WAITING;
 
-pub enum Committed {
-    Done,
-    Refused(Refusal),
-}
-
 // Before an id becomes pending: where none waits, what counts as held is written as held, and from then on some wait.
 fn ready_ids(id_marks: &mut [u8], tallies: &mut [u64])
-    ensures { λ _. ⌜ (now («id_marks» .exit) ≡ readyMarks (getWord (now (tallies .entry)) waitingWords 0) (now («id_marks» .entry))) × (now (tallies .exit) ≡ readyWords (now (tallies .entry)) 0 (getWord (now (tallies .entry)) waitingWords 0)) ⌝ }
+    ensures { λ _. ⌜ (now («id_marks» .exit)
+        ≡ readyMarks (getWord (now (tallies .entry)) waitingWords 0) (now («id_marks» .entry)))
+        × (now (tallies .exit)
+        ≡ readyWords (now (tallies .entry)) 0 (getWord (now (tallies .entry)) waitingWords 0)) ⌝ }
 {
     if tables::get(tallies, WAITING, 0) != 0 {
         return;
@@ -52,7 +50,8 @@ fn ready_ids(id_marks: &mut [u8], tallies: &mut [u64])
 // The same before a slot of a slab becomes pending.
 fn ready_slab(slots: usize, slot_marks: &mut [u8], tallies: &mut [u64], slab: usize)
     requires { ⌜ (slab < slabs) × (badSlots slots ≡ false) × (length (now «slot_marks») ≡ slabs * slots) ⌝ }
-    ensures { λ _. ⌜ _≡_ {A = Slots} (record { marks = now («slot_marks» .exit); words = now (tallies .exit) }) (readySlab slots slab (record { marks = now («slot_marks» .entry); words = now (tallies .entry) })) ⌝ }
+    ensures { λ _. ⌜ _≡_ {A = Slots} (record { marks = now («slot_marks» .exit); words = now (tallies .exit) })
+        (readySlab slots slab (record { marks = now («slot_marks» .entry); words = now (tallies .entry) })) ⌝ }
 {
     if tables::get(tallies, WAITING, slab + 1) != 0 {
         return;
@@ -66,7 +65,8 @@ fn ready_slab(slots: usize, slot_marks: &mut [u8], tallies: &mut [u64], slab: us
 // The slot of a location becomes pending.
 fn pend_slot(slots: usize, slot_marks: &mut [u8], tallies: &mut [u64], location: u64)
     requires { ⌜ (badSlots slots ≡ false) × (length (now «slot_marks») ≡ slabs * slots) ⌝ }
-    ensures { λ _. ⌜ _≡_ {A = Slots} (record { marks = now («slot_marks» .exit); words = now (tallies .exit) }) (pendSlot slots (record { marks = now («slot_marks» .entry); words = now (tallies .entry) }) location) ⌝ }
+    ensures { λ _. ⌜ _≡_ {A = Slots} (record { marks = now («slot_marks» .exit); words = now (tallies .exit) })
+        (pendSlot slots (record { marks = now («slot_marks» .entry); words = now (tallies .entry) }) location) ⌝ }
 {
     let Unpacked::At(address) = SlabAddress::unpack(slots, location) else {
         return;
@@ -102,7 +102,23 @@ fn apply_row(
     index: usize,
 )
     requires { ⌜ (badSlots (caps .slots) ≡ false) × (length (now «slot_marks») ≡ slabs * (caps .slots)) ⌝ }
-    ensures { λ _. ⌜ _≡_ {A = Memory} (memoryOf (caps .ids) (caps .slots) (now («id_marks» .exit)) (now (locations .exit)) (now («slot_marks» .exit)) (now (owners .exit)) (now (batch .entry)) (now (tallies .exit))) (commitRow (memoryOf (caps .ids) (caps .slots) (now («id_marks» .entry)) (now (locations .entry)) (now («slot_marks» .entry)) (now (owners .entry)) (now (batch .entry)) (now (tallies .entry))) (getD (now (batch .entry)) (1 + index) 0) (getD (now (batch .entry)) (257 + index) 0) (getD (now (locations .entry)) (getD (now (batch .entry)) (1 + index) 0) 0)) ⌝ }
+    ensures { λ _. ⌜ _≡_ {A = Memory} (lentTo commit (caps .ids) (caps .slots)
+        (now («id_marks» .exit))
+        (now (locations .exit))
+        (now («slot_marks» .exit))
+        (now (owners .exit))
+        (now (batch .entry))
+        (now (tallies .exit)))
+        (commitRow (lentTo commit (caps .ids) (caps .slots)
+        (now («id_marks» .entry))
+        (now (locations .entry))
+        (now («slot_marks» .entry))
+        (now (owners .entry))
+        (now (batch .entry))
+        (now (tallies .entry)))
+        (getD (now (batch .entry)) (keptIdsAt + index) 0)
+        (getD (now (batch .entry)) (keptLocationsAt + index) 0)
+        (getD (now (locations .entry)) (getD (now (batch .entry)) (keptIdsAt + index) 0) 0)) ⌝ }
 {
     let slots = caps.slots;
     let id = tables::get(batch, KEPT_IDS, index);
@@ -132,7 +148,20 @@ fn apply_rows(
     n: usize,
 )
     requires { ⌜ (badSlots (caps .slots) ≡ false) × (length (now «slot_marks») ≡ slabs * (caps .slots)) ⌝ }
-    ensures { λ _. ⌜ _≡_ {A = Memory} (memoryOf (caps .ids) (caps .slots) (now («id_marks» .exit)) (now (locations .exit)) (now («slot_marks» .exit)) (now (owners .exit)) (now (batch .entry)) (now (tallies .exit))) (commitAll (memoryOf (caps .ids) (caps .slots) (now («id_marks» .entry)) (now (locations .entry)) (now («slot_marks» .entry)) (now (owners .entry)) (now (batch .entry)) (now (tallies .entry))) (keptFrom (now (batch .entry)) n 0)) ⌝ }
+    ensures { λ _. ⌜ _≡_ {A = Memory} (lentTo commit (caps .ids) (caps .slots)
+        (now («id_marks» .exit))
+        (now (locations .exit))
+        (now («slot_marks» .exit))
+        (now (owners .exit))
+        (now (batch .entry))
+        (now (tallies .exit)))
+        (commitAll (lentTo commit (caps .ids) (caps .slots)
+        (now («id_marks» .entry))
+        (now (locations .entry))
+        (now («slot_marks» .entry))
+        (now (owners .entry))
+        (now (batch .entry))
+        (now (tallies .entry))) (keptFrom (now (batch .entry)) n 0)) ⌝ }
 {
     let mut i: usize = 0;
     while i < n {
@@ -158,9 +187,29 @@ pub fn commit(
     owners: &mut [u64],
     batch: &mut [u64],
     tallies: &mut [u64],
-) -> Committed
-    ensures answers { λ r. ⌜ committedAnswer r ≡ answer (read (memoryOf (caps .ids) (caps .slots) (now («id_marks» .entry)) (now (locations .entry)) (now («slot_marks» .entry)) (now (owners .entry)) (now (batch .entry)) (now (tallies .entry)))) commit ⌝ }
-    ensures leaves { λ r. ⌜ _≡_ {A = Memory} (memoryOf (caps .ids) (caps .slots) (now («id_marks» .exit)) (now (locations .exit)) (now («slot_marks» .exit)) (now (owners .exit)) (now (batch .exit)) (now (tallies .exit))) (memoryAfter (memoryOf (caps .ids) (caps .slots) (now («id_marks» .entry)) (now (locations .entry)) (now («slot_marks» .entry)) (now (owners .entry)) (now (batch .entry)) (now (tallies .entry))) commit) ⌝ }
+) -> Finished
+    ensures answers { λ r. ⌜ finishedAnswer r
+        ≡ answered commit (caps .ids) (caps .slots)
+        (now («id_marks» .entry))
+        (now (locations .entry))
+        (now («slot_marks» .entry))
+        (now (owners .entry))
+        (now (batch .entry))
+        (now (tallies .entry)) ⌝ }
+    ensures leaves { λ r. ⌜ _≡_ {A = Memory} (lentTo commit (caps .ids) (caps .slots)
+        (now («id_marks» .exit))
+        (now (locations .exit))
+        (now («slot_marks» .exit))
+        (now (owners .exit))
+        (now (batch .exit))
+        (now (tallies .exit)))
+        (leaves commit (caps .ids) (caps .slots)
+        (now («id_marks» .entry))
+        (now (locations .entry))
+        (now («slot_marks» .entry))
+        (now (owners .entry))
+        (now (batch .entry))
+        (now (tallies .entry))) ⌝ }
 {
     match check(
         caps,
@@ -171,7 +220,7 @@ pub fn commit(
         batch,
         tallies,
     ) {
-        Rows::Refused(refusal) => Committed::Refused(refusal),
+        Rows::Refused(refusal) => Finished::Refused(refusal),
         Rows::Count(n) => {
             apply_rows(
                 caps,
@@ -184,7 +233,7 @@ pub fn commit(
                 n,
             );
             tables::put(batch, 0, 0, 0);
-            Committed::Done
+            Finished::Done
         }
     }
 }

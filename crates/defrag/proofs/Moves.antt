@@ -9,19 +9,20 @@ use lib.Dec.{ltb, eqb}
 use lib.ListN.{length, getD, take, drop}
 use lib.Seq.{drop-cons}
 use lib.Ieee.{Float}
+use Rattle.list_parts.specs.Parts.{part}
+use Rattle.list_parts.proofs.Parts.{part-at, part-end}
 use Rattle.address.specs.Address.{packing, slabs}
 use Rattle.marks.specs.Marks.{isTaken, countIf, tip}
 use Rattle.id_allocator.specs.Counted.{counted}
 use Rattle.id_allocator.proofs.LawsCounted.{counted-live, counted-tip}
 use Rattle.fragmentation.specs.Cutoff.{cutoff}
 use Rattle.model.specs.Store.{Store, Row}
-use Rattle.model.specs.Tables.{part, slabTip, live}
+use Rattle.model.specs.Tables.{allocators, slabTip, live}
 use Rattle.model.specs.Defrag.{consIf, movable, movesIn, slabMoves, movesFrom, allMoves}
 use Rattle.model.specs.Memory.{Memory, read, getWord, hintWords, waitingWords, usedWords}
 use Rattle.model.proofs.Slabs.{part-countedSlabs}
-use Rattle.model.proofs.Tables.{part-at}
 use Rattle.defrag.specs.Listed.{rowOf, listedOf, marksOf, tipIn, spanOf, slabRows, listedFrom}
-use Rattle.defrag.proofs.Spans.{span-in, inside}
+use Rattle.defrag.proofs.Spans.{span-in}
 
 -- ---- of a slab
 
@@ -52,40 +53,40 @@ moves-are s len k j (suc n) h =
         ∙ sym (consIf-append (movable s k j o) (o, packing k j) (movesIn s k (suc j) n))
 
 module _ (m : Memory) (r : Float) (low : 1 ≤ m .slots) (locations : length (m .locations) ≡ m .ids)
-    (marks : length (m .slotMarks) ≡ 78 * m .slots) (owners : length (m .owners) ≡ 78 * m .slots) where
-  slab-part : (k : ℕ) → k < 78 → part (m .slots) (read m .slotMarks) k ≡ counted (getWord (m .tallies) hintWords (suc k)) (getWord (m .tallies) waitingWords (suc k)) (part (m .slots) (m .slotMarks) k)
+    (marks : length (m .slotMarks) ≡ slabs * m .slots) (owners : length (m .owners) ≡ slabs * m .slots) where
+  slab-part : (k : ℕ) → k < slabs → part (m .slots) (read m .slotMarks) k ≡ counted (getWord (m .tallies) hintWords (suc k)) (getWord (m .tallies) waitingWords (suc k)) (part (m .slots) (m .slotMarks) k)
   unfolding read
   slab-part k h =
       let z : 0 + k ≡ k = omega arith in
       rw z at (part-countedSlabs (m .slots) (m .tallies) slabs 0 (m .slotMarks) k marks h)
 
-  tip-is : (k : ℕ) → k < 78 → tipIn (m .slots) (m .slotMarks) (m .tallies) k ≡ slabTip (read m) k
+  tip-is : (k : ℕ) → k < slabs → tipIn (m .slots) (m .slotMarks) (m .tallies) k ≡ slabTip (read m) k
   unfolding read
   tip-is k h =
       sym (counted-tip (getWord (m .tallies) hintWords (suc k)) (getWord (m .tallies) waitingWords (suc k)) (part (m .slots) (m .slotMarks) k) (getWord (m .tallies) usedWords (suc k)))
-      ∙ sym (λ i. tip (slab-part k h i) (part-at 79 (m .tallies) 2 (suc k) (omega arith) i))
+      ∙ sym (λ i. tip (slab-part k h i) (part-at allocators (m .tallies) usedWords (suc k) 0 (omega arith) i))
 
-  live-is : (k : ℕ) → k < 78 → countIf isTaken (marksOf (m .slots) (m .slotMarks) (m .tallies) k) ≡ live (read m) k
+  live-is : (k : ℕ) → k < slabs → countIf isTaken (marksOf (m .slots) (m .slotMarks) (m .tallies) k) ≡ live (read m) k
   unfolding read
   live-is k h =
       sym (counted-live (getWord (m .tallies) hintWords (suc k)) (getWord (m .tallies) waitingWords (suc k)) (part (m .slots) (m .slotMarks) k))
       ∙ ap (countIf isTaken) (sym (slab-part k h))
 
-  slab-moves : (k : ℕ) → k < 78 → slabRows (m .slots) (m .locations) (m .slotMarks) (m .owners) (m .tallies) r k ≡ slabMoves (read m) r k (slabTip (read m) k)
+  slab-moves : (k : ℕ) → k < slabs → slabRows (m .slots) (m .locations) (m .slotMarks) (m .owners) (m .tallies) r k ≡ slabMoves (read m) r k (slabTip (read m) k)
   unfolding slabRows spanOf read
   slab-moves k h =
       let s = span-in (m .slots) (m .slotMarks) (m .tallies) k low h marks r in
       let t = tipIn (m .slots) (m .slotMarks) (m .tallies) k in
       let f = cutoff (countIf isTaken (marksOf (m .slots) (m .slotMarks) (m .tallies) k)) t r in
-      moves-are (read m) locations k f (t - f) (omega (arith, inside (m .slots) k h))
+      moves-are (read m) locations k f (t - f) (omega (arith, part-end (m .slots) slabs k h))
       ∙ (λ i. movesIn (read m) k (cutoff (live-is k h i) (tip-is k h i) r) (tip-is k h i - cutoff (live-is k h i) (tip-is k h i) r))
 
-  rows-from : (n k : ℕ) → k + n ≤ 78 → listedFrom (m .slots) (m .locations) (m .slotMarks) (m .owners) (m .tallies) r n k ≡ movesFrom (read m) r n k
+  rows-from : (n k : ℕ) → k + n ≤ slabs → listedFrom (m .slots) (m .locations) (m .slotMarks) (m .owners) (m .tallies) r n k ≡ movesFrom (read m) r n k
   unfolding listedFrom movesFrom
   rows-from zero k h = refl
   rows-from (suc n) k h =
       let e : k + 1 ≡ suc k = omega arith in
       λ i. slab-moves k (omega arith) i ++ (ap (listedFrom (m .slots) (m .locations) (m .slotMarks) (m .owners) (m .tallies) r n) e ∙ rows-from n (suc k) (omega arith)) i
 
-  pub rows-are : listedFrom (m .slots) (m .locations) (m .slotMarks) (m .owners) (m .tallies) r 78 0 ≡ allMoves (read m) r
-  rows-are = rows-from 78 0 (omega arith)
+  pub rows-are : listedFrom (m .slots) (m .locations) (m .slotMarks) (m .owners) (m .tallies) r slabs 0 ≡ allMoves (read m) r
+  rows-are = rows-from slabs 0 (omega arith)

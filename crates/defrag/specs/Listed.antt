@@ -5,16 +5,14 @@ use Prim.Native.Nat.{ℕ, zero, suc, _+_, _-_, _*_}
 use lib.Dec.{ltb, eqb}
 use lib.ListN.{length, getD, take, drop}
 use lib.Ieee.{Float}
+use Rattle.list_parts.specs.Parts.{part}
 use Rattle.address.specs.Address.{packing}
-use Rattle.address.specs.declared.Packed.{Packed}
-use Rattle.address.specs.declared.Packed.the-variants as P
 use Rattle.marks.specs.Marks.{isTaken, countIf, tip}
 use Rattle.id_allocator.specs.Counted.{hinted}
 use Rattle.fragmentation.specs.Cutoff.{cutoff}
 use Rattle.fragmentation.specs.declared.Cutoff.{Cutoff}
 use Rattle.fragmentation.specs.declared.Cutoff.the-variants as C
 use Rattle.model.specs.Store.{Row}
-use Rattle.model.specs.Tables.{part}
 use Rattle.model.specs.Defrag.{consIf}
 use Rattle.model.specs.Memory.{getWord, usedWords, hintWords}
 use Rattle.defrag.specs.declared.slabs.Span.{Span}
@@ -38,10 +36,6 @@ abbrev pub startOf : Cutoff → ℕ → ℕ
 startOf (C.From n) t = n
 startOf C.Nothing t = t
 startOf (C.Refused r) t = t
-
-abbrev pub locationIn : Packed → ℕ
-locationIn (P.Location l) = l
-locationIn (P.Refused r) = 0
 
 -- a slab's marks as they count, but that pending ones are not told from held ones
 abbrev pub marksOf : ℕ → List ℕ → List ℕ → ℕ → List ℕ

@@ -11,11 +11,13 @@
 // counted, not walked.
 ghost use mathlib.Core.Path.{_≡_};
 ghost use mathlib.Core.Bool.{_&&_};
-ghost use lib.Dec.{eqb};
 ghost use Prim.Native.Nat.{suc};
-ghost use Rattle.model.specs.Lent.{movedIn, movedTo};
-ghost use Rattle.tables.specs.Shapes.{defragFits};
-ghost use Rattle.defrag.specs.Answers.{answered, defragOf};
+ghost use lib.Dec.{eqb};
+ghost use Rattle.model.specs.Store.{ask, defrag};
+ghost use Rattle.model.specs.Lending.{moveTables};
+ghost use Rattle.model.specs.Lent.{fitsBy, answered};
+ghost use Rattle.model.specs.Outcomes.{outcomeOf, listIn};
+ghost use Rattle.defrag.specs.Outcomes.{defragOutcome};
 use refusal::Refusal;
 use tables::Capacities;
 
@@ -38,7 +40,7 @@ fn fits(
     moved_ids: usize,
     moved_locations: usize,
 ) -> bool
-    ensures { λ r. ⌜ r ≡ (defragFits (caps .ids) (caps .slots) locations «slot_marks» owners batch tallies
+    ensures { λ r. ⌜ r ≡ (fitsBy moveTables (caps .ids) (caps .slots) locations «slot_marks» owners batch tallies
         && (eqb (suc «moved_ids») (caps .ids) && eqb «moved_locations» «moved_ids»)) ⌝ }
 {
     if !tables::defrag_fits(caps, locations, slot_marks, owners, batch, tallies) {
@@ -58,9 +60,32 @@ pub fn objects_to_defrag(
     moved_ids: &mut [u64],
     moved_locations: &mut [u64],
 ) -> Defrag
-    ensures { λ a. ⌜ (a ≡ defragOf (answered (caps .ids) (caps .slots) (now (locations .entry)) (now («slot_marks» .entry)) (now (owners .entry)) (now (batch .entry)) (now (tallies .entry)) r (now («moved_ids» .entry)) (now («moved_locations» .entry))))
-        × (now («moved_ids» .exit) ≡ movedIn (answered (caps .ids) (caps .slots) (now (locations .entry)) (now («slot_marks» .entry)) (now (owners .entry)) (now (batch .entry)) (now (tallies .entry)) r (now («moved_ids» .entry)) (now («moved_locations» .entry))) (now («moved_ids» .entry)))
-        × (now («moved_locations» .exit) ≡ movedTo (answered (caps .ids) (caps .slots) (now (locations .entry)) (now («slot_marks» .entry)) (now (owners .entry)) (now (batch .entry)) (now (tallies .entry)) r (now («moved_ids» .entry)) (now («moved_locations» .entry))) (now («moved_locations» .entry))) ⌝ }
+    ensures { λ a. ⌜ (defragOutcome a
+        ≡ outcomeOf (answered (ask (defrag r (now («moved_ids» .entry)) (now («moved_locations» .entry))))
+        (caps .ids) (caps .slots)
+        (now (locations .entry))
+        (now («slot_marks» .entry))
+        (now (owners .entry))
+        (now (batch .entry))
+        (now (tallies .entry))))
+        × (now («moved_ids» .exit)
+        ≡ listIn 0 (answered (ask (defrag r (now («moved_ids» .entry)) (now («moved_locations» .entry))))
+        (caps .ids) (caps .slots)
+        (now (locations .entry))
+        (now («slot_marks» .entry))
+        (now (owners .entry))
+        (now (batch .entry))
+        (now (tallies .entry)))
+        (now («moved_ids» .entry)))
+        × (now («moved_locations» .exit)
+        ≡ listIn 1 (answered (ask (defrag r (now («moved_ids» .entry)) (now («moved_locations» .entry))))
+        (caps .ids) (caps .slots)
+        (now (locations .entry))
+        (now («slot_marks» .entry))
+        (now (owners .entry))
+        (now (batch .entry))
+        (now (tallies .entry)))
+        (now («moved_locations» .entry))) ⌝ }
 {
     if !fits(
         caps,

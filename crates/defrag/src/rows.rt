@@ -32,8 +32,10 @@ fn add_row(
 ) -> usize
     requires { ⌜ n + 1 < 2 ^ 64 ⌝ }
     ensures { λ r. ⌜ (r ≡ n + length (rowOf (now (locations .entry)) location owner))
-        × (now («moved_ids» .exit) ≡ sets (now («moved_ids» .entry)) n (idsOf (rowOf (now (locations .entry)) location owner)))
-        × (now («moved_locations» .exit) ≡ sets (now («moved_locations» .entry)) n (locationsOf (rowOf (now (locations .entry)) location owner))) ⌝ }
+        × (now («moved_ids» .exit) ≡ sets (now («moved_ids» .entry)) n
+        (idsOf (rowOf (now (locations .entry)) location owner)))
+        × (now («moved_locations» .exit) ≡ sets (now («moved_locations» .entry)) n
+        (locationsOf (rowOf (now (locations .entry)) location owner))) ⌝ }
 {
     if !movable(locations, owner, location) {
         return n;
@@ -54,8 +56,10 @@ pub(crate) fn add_rows(
 ) -> usize
     requires { ⌜ (first + length (now owners) < 2 ^ 64) × (from + length (now owners) < 2 ^ 64) ⌝ }
     ensures { λ r. ⌜ (r ≡ from + length (listedOf (now (locations .entry)) first (now (owners .entry))))
-        × (now («moved_ids» .exit) ≡ sets (now («moved_ids» .entry)) from (idsOf (listedOf (now (locations .entry)) first (now (owners .entry)))))
-        × (now («moved_locations» .exit) ≡ sets (now («moved_locations» .entry)) from (locationsOf (listedOf (now (locations .entry)) first (now (owners .entry))))) ⌝ }
+        × (now («moved_ids» .exit) ≡ sets (now («moved_ids» .entry)) from
+        (idsOf (listedOf (now (locations .entry)) first (now (owners .entry)))))
+        × (now («moved_locations» .exit) ≡ sets (now («moved_locations» .entry)) from
+        (locationsOf (listedOf (now (locations .entry)) first (now (owners .entry))))) ⌝ }
 {
     let mut n = from;
     let mut location = first;

@@ -4,9 +4,10 @@ ghost use mathlib.Core.Bool.{true};
 ghost use Prim.Native.Nat.{_+_, _*_, _<_, _≤_};
 ghost use lib.ListN.{length};
 ghost use lib.Seq.{sets};
+ghost use Rattle.address.specs.Address.{slabs, locationIn, mostSlots};
 ghost use Rattle.fragmentation.specs.Cutoff.{isRatio};
 ghost use Rattle.model.specs.Tables.{idsOf, locationsOf};
-ghost use Rattle.defrag.specs.Listed.{startOf, locationIn, spanOf, slabRows, listedFrom};
+ghost use Rattle.defrag.specs.Listed.{startOf, spanOf, slabRows, listedFrom};
 use crate::rows::add_rows;
 use address::Packed;
 use address::SlabAddress;
@@ -38,7 +39,7 @@ fn location(packed: Packed) -> u64
 }
 
 fn looked_at(slots: usize, slot_marks: &[u8], tallies: &[u64], r: f32, slab: usize) -> Span
-    requires { ⌜ (slab < 78) × (1 ≤ slots) × (slots ≤ 65536) × (length (now «slot_marks») ≡ 78 * slots) × (isRatio r ≡ true) ⌝ }
+    requires { ⌜ (slab < slabs) × (1 ≤ slots) × (slots ≤ mostSlots) × (length (now «slot_marks») ≡ slabs * slots) × (isRatio r ≡ true) ⌝ }
     ensures { λ s. ⌜ s ≡ spanOf slots (now («slot_marks» .entry)) (now (tallies .entry)) r slab ⌝ }
 {
     let base = slab * slots;
@@ -64,10 +65,26 @@ fn add_slab(
     moved_locations: &mut [u64],
     n: usize,
 ) -> usize
-    requires { ⌜ (slab < 78) × (1 ≤ slots) × (slots ≤ 65536) × (length (now «slot_marks») ≡ 78 * slots) × (length (now owners) ≡ 78 * slots) × (isRatio r ≡ true) × (n ≤ slab * 65536) ⌝ }
-    ensures { λ m. ⌜ (m ≡ n + length (slabRows slots (now (locations .entry)) (now («slot_marks» .entry)) (now (owners .entry)) (now (tallies .entry)) r slab))
-        × (now («moved_ids» .exit) ≡ sets (now («moved_ids» .entry)) n (idsOf (slabRows slots (now (locations .entry)) (now («slot_marks» .entry)) (now (owners .entry)) (now (tallies .entry)) r slab)))
-        × (now («moved_locations» .exit) ≡ sets (now («moved_locations» .entry)) n (locationsOf (slabRows slots (now (locations .entry)) (now («slot_marks» .entry)) (now (owners .entry)) (now (tallies .entry)) r slab))) ⌝ }
+    requires { ⌜ (slab < slabs) × (1 ≤ slots) × (slots ≤ mostSlots) × (length (now «slot_marks») ≡ slabs * slots)
+        × (length (now owners) ≡ slabs * slots) × (isRatio r ≡ true) × (n ≤ slab * mostSlots) ⌝ }
+    ensures { λ m. ⌜ (m ≡ n + length (slabRows slots
+        (now (locations .entry))
+        (now («slot_marks» .entry))
+        (now (owners .entry))
+        (now (tallies .entry))
+        r slab))
+        × (now («moved_ids» .exit) ≡ sets (now («moved_ids» .entry)) n (idsOf (slabRows slots
+        (now (locations .entry))
+        (now («slot_marks» .entry))
+        (now (owners .entry))
+        (now (tallies .entry))
+        r slab)))
+        × (now («moved_locations» .exit) ≡ sets (now («moved_locations» .entry)) n (locationsOf (slabRows slots
+        (now (locations .entry))
+        (now («slot_marks» .entry))
+        (now (owners .entry))
+        (now (tallies .entry))
+        r slab))) ⌝ }
 {
     let looked = looked_at(slots, slot_marks, tallies, r, slab);
     let base = slab * slots;
@@ -95,10 +112,26 @@ pub(crate) fn list_all(
     moved_ids: &mut [u64],
     moved_locations: &mut [u64],
 ) -> usize
-    requires { ⌜ (1 ≤ slots) × (slots ≤ 65536) × (length (now «slot_marks») ≡ 78 * slots) × (length (now owners) ≡ 78 * slots) × (isRatio r ≡ true) ⌝ }
-    ensures { λ m. ⌜ (m ≡ length (listedFrom slots (now (locations .entry)) (now («slot_marks» .entry)) (now (owners .entry)) (now (tallies .entry)) r 78 0))
-        × (now («moved_ids» .exit) ≡ sets (now («moved_ids» .entry)) 0 (idsOf (listedFrom slots (now (locations .entry)) (now («slot_marks» .entry)) (now (owners .entry)) (now (tallies .entry)) r 78 0)))
-        × (now («moved_locations» .exit) ≡ sets (now («moved_locations» .entry)) 0 (locationsOf (listedFrom slots (now (locations .entry)) (now («slot_marks» .entry)) (now (owners .entry)) (now (tallies .entry)) r 78 0))) ⌝ }
+    requires { ⌜ (1 ≤ slots) × (slots ≤ mostSlots) × (length (now «slot_marks») ≡ slabs * slots)
+        × (length (now owners) ≡ slabs * slots) × (isRatio r ≡ true) ⌝ }
+    ensures { λ m. ⌜ (m ≡ length (listedFrom slots
+        (now (locations .entry))
+        (now («slot_marks» .entry))
+        (now (owners .entry))
+        (now (tallies .entry))
+        r slabs 0))
+        × (now («moved_ids» .exit) ≡ sets (now («moved_ids» .entry)) 0 (idsOf (listedFrom slots
+        (now (locations .entry))
+        (now («slot_marks» .entry))
+        (now (owners .entry))
+        (now (tallies .entry))
+        r slabs 0)))
+        × (now («moved_locations» .exit) ≡ sets (now («moved_locations» .entry)) 0 (locationsOf (listedFrom slots
+        (now (locations .entry))
+        (now («slot_marks» .entry))
+        (now (owners .entry))
+        (now (tallies .entry))
+        r slabs 0))) ⌝ }
 {
     let mut n: usize = 0;
     let mut slab: usize = 0;

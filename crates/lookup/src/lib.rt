@@ -7,10 +7,9 @@
 //
 // Nothing is written, and an open batch does not matter: what it stores is seen once it is committed.
 ghost use mathlib.Core.Path.{_≡_};
-ghost use Rattle.model.specs.Store.{lookup};
-ghost use Rattle.model.specs.Memory.{read};
-ghost use Rattle.model.specs.Step.{answer};
-ghost use Rattle.lookup.specs.Lookup.{lookupMemory, lookedAnswer};
+ghost use Rattle.model.specs.Store.{ask, lookup};
+ghost use Rattle.model.specs.Lent.{answered};
+ghost use Rattle.lookup.specs.Lookup.{lookedAnswer};
 use refusal::Refusal;
 use tables::Capacities;
 
@@ -28,7 +27,13 @@ pub fn get_location_for_object(
     tallies: &[u64],
     id: u64,
 ) -> Looked
-    ensures { λ r. ⌜ lookedAnswer r ≡ answer (read (lookupMemory (caps .ids) (caps .slots) (now («id_marks» .entry)) (now (locations .entry)) (now («slot_marks» .entry)) (now (owners .entry)) (now (tallies .entry)))) (lookup id) ⌝ }
+    ensures { λ r. ⌜ lookedAnswer r
+        ≡ answered (ask (lookup id)) (caps .ids) (caps .slots)
+        (now («id_marks» .entry))
+        (now (locations .entry))
+        (now («slot_marks» .entry))
+        (now (owners .entry))
+        (now (tallies .entry)) ⌝ }
 {
     if !tables::lookup_fits(
         caps,

@@ -6,24 +6,22 @@ use Prim.Native.Nat.{ℕ, zero, suc, _+_, _<_}
 use native.Mathlib.Omega.{arith}
 use lib.Dec.{leb, ltb, eqb, eqb·suc-zero}
 use lib.ListN.{length, getD, set}
-use borrow.Author.Tests.{eqb-true}
-use Rattle.refusal.proofs.Tests.{and-true}
+use Rattle.refusal.specs.Outcomes.{granted}
 use Rattle.refusal.specs.Refusals.{wrongShape, batchOpen, noneFree}
 use Rattle.marks.specs.Marks.{isFree, smallestFree, hold}
 use Rattle.id_allocator.specs.Counted.{hinted, quiet, counted}
 use Rattle.id_allocator.proofs.LawsCounted.{counted-smallestFree, counted-length, settle-free}
 use Rattle.model.specs.Memory.{Memory, read, wordAt, getWord, putWord, grantedWords, usedWords, hintWords, waitingWords}
 use Rattle.model.specs.MemoryAfter.{withIds, newIdWords, memoryEffect, memoryAfter}
-use Rattle.model.specs.Step.{refusal, grant, answer, answerBy}
+use Rattle.model.specs.Step.{refusalOf, refusal, grant, answer, answerBy}
 use Rattle.model.specs.Store.{newId, gave}
 use Rattle.model.specs.Ids.{nextId}
-use Rattle.model.specs.Tables.{bump, idMarksFit, batchFits, talliesFit}
+use Rattle.model.specs.Tables.{bump}
+use Rattle.model.specs.Lending.{idTables}
+use Rattle.model.specs.Lent.{fits}
 use Rattle.model.specs.Verdict.{_⨾_, test}
-use Rattle.model.proofs.Granted.{shape-ok, new-id-granted}
-use Rattle.model.proofs.Verdicts.{first-ok}
-use Rattle.tables.specs.Shapes.{newIdFits}
-use Rattle.tables.proofs.Laws.{capacities-range}
-use Rattle.tables.proofs.Lengths.{newIdFits-read}
+use Rattle.model.proofs.Granted.{granted-fits, new-id-granted}
+use Rattle.model.proofs.Sizes.{shape-read, fits-range, fits-id-marks}
 use Rattle.model.proofs.Answered.{granted-after}
 use Rattle.object_ids.specs.NewIds.{takes}
 
@@ -36,14 +34,11 @@ module _ (m : Memory) where
   unfolding read
   next-found = counted-smallestFree (getWord (m .tallies) hintWords 0) (getWord (m .tallies) waitingWords 0) (m .idMarks) 1
 
-  abbrev pub fits : Bool
-  fits = newIdFits (m .ids) (m .slots) (length (m .idMarks)) (length (m .batch)) (length (m .tallies))
-
   pub newId-answer : answer (read m) newId
-      ≡ answerBy (test (not fits) wrongShape 0 ⨾ test (ltb 0 (getD (m .batch) 0 0)) batchOpen 0 ⨾ test (leb (m .ids) found) noneFree 0) (gave found)
-  unfolding answer refusal grant read
+      ≡ answerBy (test (not (fits idTables m)) wrongShape 0 ⨾ test (ltb 0 (getD (m .batch) 0 0)) batchOpen 0 ⨾ test (leb (m .ids) found) noneFree 0) (gave found)
+  unfolding answer refusal refusalOf grant read
   newId-answer = λ i. answerBy
-      (test (not (newIdFits-read m i)) wrongShape 0 ⨾ test (ltb 0 (getD (m .batch) 0 0)) batchOpen 0 ⨾ test (leb (m .ids) (next-found i)) noneFree 0)
+      (shape-read newId m i ⨾ test (ltb 0 (getD (m .batch) 0 0)) batchOpen 0 ⨾ test (leb (m .ids) (next-found i)) noneFree 0)
       (gave (next-found i))
 
 -- number 0 is free where its mark is 0 and the hint is 0
@@ -80,21 +75,20 @@ pub record NewIdGranted (m : Memory) (id : ℕ) : Type 0 where
       ≡ withIds m (set (set (m .idMarks) id 1) 0 (hold (getD (m .idMarks) 0 0)))
       (newIdWords (m .tallies) id (takes (getD (m .idMarks) 0 0) (getWord (m .tallies) hintWords 0)))
 
-pub newId-granted : (m : Memory) (id : ℕ) → gave id ≡ answer (read m) newId → NewIdGranted m id
-unfolding refusal grant memoryEffect read
+pub newId-granted : (m : Memory) (id : ℕ) → granted (gave id) ≡ answer (read m) newId → NewIdGranted m id
+unfolding grant memoryEffect read
 newId-granted m id e =
-    let q = granted-after m newId (gave id) e refl in
-    let is : id ≡ nextId (read m) = let g : gave id ≡ gave (nextId (read m)) = q .given in cc in
+    let q = granted-after m newId (granted (gave id)) e refl in
+    let is : id ≡ nextId (read m) = let g : granted (gave id) ≡ granted (gave (nextId (read m))) = q .given in cc in
     let lt : nextId (read m) < length (read m .idMarks) = new-id-granted (read m) (q .fine) in
     let len : length (read m .idMarks) ≡ length (m .idMarks) = counted-length (getWord (m .tallies) hintWords 0) (getWord (m .tallies) waitingWords 0) (m .idMarks) in
-    let s = shape-ok (read m) _ (first-ok _ _ (q .fine)) in
-    let r = capacities-range (m .ids) (m .slots) (s .0) in
-    let f = and-true _ (talliesFit (read m)) (s .1) in
-    let ids : length (read m .idMarks) ≡ m .ids = eqb-true _ _ (and-true (idMarksFit (read m)) (batchFits (read m)) (f .0) .0) in
+    let f = granted-fits m newId (q .fine) in
+    let r = fits-range idTables m f in
+    let ids = fits-id-marks idTables m f in
     let some : 0 < length (m .idMarks) = omega arith in
     record {
       some = some;
-      small = omega (arith, r .ids-to);
+      small = omega (arith, r .ids-to, ids);
       after = q .after ∙ λ i.
           withIds m (set (set (m .idMarks) (sym is i) 1) 0 (hold (getD (m .idMarks) 0 0)))
           (newIdWords (m .tallies) (sym is i) (sym (takes-read m some) i));

@@ -2,11 +2,12 @@
 ghost use mathlib.Core.Path.{_≡_};
 ghost use Prim.Native.Nat.{_+_, _≤_};
 ghost use lib.ListN.{length, take, drop};
-ghost use Rattle.model.specs.Store.{counters};
+ghost use Rattle.model.specs.Store.{ask, counters};
+ghost use Rattle.model.specs.Tables.{allocators};
 ghost use Rattle.model.specs.Ids.{sum};
-ghost use Rattle.model.specs.Step.{answer};
-ghost use Rattle.model.specs.Memory.{read};
-ghost use Rattle.object_ids.specs.Counts.{talliesMemory, statsAnswer, countersAnswer, listed, grantedIn, freedIn};
+ghost use Rattle.model.specs.Lent.{answered};
+ghost use Rattle.model.specs.Outcomes.{listIn};
+ghost use Rattle.object_ids.specs.Counts.{statsAnswer, countersAnswer, listed};
 use crate::IDS;
 use refusal::Refusal;
 use tables::ALLOCATORS;
@@ -26,8 +27,8 @@ pub enum Counted {
 
 // The words of a kind, one for each slab, summed modulo 2^64.
 fn slots_sum(tallies: &[u64], base: usize) -> u64
-    requires { ⌜ base + 79 ≤ length (now tallies) ⌝ }
-    ensures { λ r. ⌜ r ≡ sum (drop 1 (take 79 (drop base (now (tallies .entry))))) ⌝ }
+    requires { ⌜ base + allocators ≤ length (now tallies) ⌝ }
+    ensures { λ r. ⌜ r ≡ sum (drop 1 (take allocators (drop base (now (tallies .entry))))) ⌝ }
 {
     let mut total: u64 = 0;
     let mut i = ALLOCATORS;
@@ -40,7 +41,8 @@ fn slots_sum(tallies: &[u64], base: usize) -> u64
 
 // The four sums: objects are the ids' allocator, heap slots the slabs'.
 pub fn stats(caps: Capacities, tallies: &[u64]) -> Counted
-    ensures { λ r. ⌜ statsAnswer (now (tallies .entry)) r ≡ answer (read (talliesMemory caps (now (tallies .entry)))) counters ⌝ }
+    ensures { λ r. ⌜ statsAnswer (now (tallies .entry)) r
+        ≡ answered (ask counters) (caps .ids) (caps .slots) (now (tallies .entry)) ⌝ }
 {
     if !tables::tallies_fit(caps, tallies.len()) {
         return Counted::Refused(Refusal::of(Refusal::WRONG_SHAPE));
@@ -55,8 +57,8 @@ pub fn stats(caps: Capacities, tallies: &[u64]) -> Counted
 
 // The words of a kind, copied into a lent list of as many rows.
 fn copy_words(tallies: &[u64], base: usize, out: &mut [u64])
-    requires { ⌜ (base + 79 ≤ length (now tallies)) × (length (now out) ≡ 79) ⌝ }
-    ensures { λ _. ⌜ now (out .exit) ≡ take 79 (drop base (now (tallies .entry))) ⌝ }
+    requires { ⌜ (base + allocators ≤ length (now tallies)) × (length (now out) ≡ allocators) ⌝ }
+    ensures { λ _. ⌜ now (out .exit) ≡ take allocators (drop base (now (tallies .entry))) ⌝ }
 {
     let mut i: usize = 0;
     while i < out.len() {
@@ -65,7 +67,7 @@ fn copy_words(tallies: &[u64], base: usize, out: &mut [u64])
     }
 }
 
-// Each allocator's pair, the ids' first, then the slabs', in two lent lists of 79 rows; and the four sums.
+// Each allocator's pair, the ids' first, then the slabs', in two lent lists of ALLOCATORS rows; and the four sums.
 pub fn counters(
     caps: Capacities,
     tallies: &[u64],
@@ -73,11 +75,14 @@ pub fn counters(
     freed: &mut [u64],
 ) -> Counted
     ensures { λ r. ⌜ countersAnswer (now (granted .exit)) (now (freed .exit)) r
-        ≡ listed (now (granted .entry)) (now (freed .entry)) (answer (read (talliesMemory caps (now (tallies .entry)))) counters) ⌝ }
+        ≡ listed (now (granted .entry)) (now (freed .entry))
+        (answered (ask counters) (caps .ids) (caps .slots) (now (tallies .entry))) ⌝ }
     ensures { λ _. ⌜ now (granted .exit)
-        ≡ grantedIn (listed (now (granted .entry)) (now (freed .entry)) (answer (read (talliesMemory caps (now (tallies .entry)))) counters)) (now (granted .entry)) ⌝ }
+        ≡ listIn 0 (listed (now (granted .entry)) (now (freed .entry))
+        (answered (ask counters) (caps .ids) (caps .slots) (now (tallies .entry)))) (now (granted .entry)) ⌝ }
     ensures { λ _. ⌜ now (freed .exit)
-        ≡ freedIn (listed (now (granted .entry)) (now (freed .entry)) (answer (read (talliesMemory caps (now (tallies .entry)))) counters)) (now (freed .entry)) ⌝ }
+        ≡ listIn 1 (listed (now (granted .entry)) (now (freed .entry))
+        (answered (ask counters) (caps .ids) (caps .slots) (now (tallies .entry)))) (now (freed .entry)) ⌝ }
 {
     if granted.len() != ALLOCATORS {
         return Counted::Refused(Refusal::of(Refusal::WRONG_SHAPE));

@@ -17,5 +17,5 @@ pub use counts::stats;
 pub use new_id::NewId;
 pub use new_id::allocate_object_id;
 
-// The ids' allocator is the first of the 79.
+// The ids' allocator is the first of tables::ALLOCATORS.
 const IDS: usize = 0;

@@ -4,10 +4,10 @@ ghost use Prim.Native.Nat.{_<_};
 ghost use lib.ListN.{length, getD, set};
 ghost use Rattle.marks.specs.Marks.{hold};
 ghost use Rattle.model.specs.Store.{newId};
-ghost use Rattle.model.specs.Step.{answer};
-ghost use Rattle.model.specs.Memory.{read, getWord, hintWords};
-ghost use Rattle.model.specs.MemoryAfter.{newIdWords, memoryAfter};
-ghost use Rattle.object_ids.specs.NewIds.{newIdMemory, newIdAnswer, takes};
+ghost use Rattle.model.specs.Memory.{getWord, hintWords};
+ghost use Rattle.model.specs.Lent.{lentTo, answered, leaves};
+ghost use Rattle.model.specs.MemoryAfter.{newIdWords};
+ghost use Rattle.object_ids.specs.NewIds.{newIdAnswer, takes};
 use crate::IDS;
 use refusal::Refusal;
 use tables::Capacities;
@@ -19,7 +19,11 @@ pub enum NewId {
 
 // The id that is next, or why there is none.
 fn next_id(caps: Capacities, id_marks: &[u8], batch: &[u64], tallies: &[u64]) -> NewId
-    ensures { λ r. ⌜ newIdAnswer r ≡ answer (read (newIdMemory caps (now («id_marks» .entry)) (now (batch .entry)) (now (tallies .entry)))) newId ⌝ }
+    ensures { λ r. ⌜ newIdAnswer r
+        ≡ answered newId (caps .ids) (caps .slots)
+        (now («id_marks» .entry))
+        (now (batch .entry))
+        (now (tallies .entry)) ⌝ }
 {
     if !tables::new_id_fits(caps, id_marks.len(), batch.len(), tallies.len()) {
         return NewId::Refused(Refusal::of(Refusal::WRONG_SHAPE));
@@ -60,7 +64,9 @@ fn numbers_taken(mark: u8, hint: u64) -> u64
 fn hold_id(id_marks: &mut [u8], tallies: &mut [u64], id: usize)
     requires { ⌜ (0 < length (now «id_marks»)) × (id < 65536) ⌝ }
     ensures { λ _. ⌜ (now («id_marks» .exit) ≡ set (set (now («id_marks» .entry)) id 1) 0 (hold (getD (now («id_marks» .entry)) 0 0)))
-        × (now (tallies .exit) ≡ newIdWords (now (tallies .entry)) id (takes (getD (now («id_marks» .entry)) 0 0) (getWord (now (tallies .entry)) hintWords 0))) ⌝ }
+        × (now (tallies .exit)
+        ≡ newIdWords (now (tallies .entry)) id
+        (takes (getD (now («id_marks» .entry)) 0 0) (getWord (now (tallies .entry)) hintWords 0))) ⌝ }
 {
     let first = id_marks[0];
     let hint = tables::get(tallies, tables::HINT, IDS);
@@ -78,9 +84,19 @@ pub fn allocate_object_id(
     batch: &[u64],
     tallies: &mut [u64],
 ) -> NewId
-    ensures { λ r. ⌜ newIdAnswer r ≡ answer (read (newIdMemory caps (now («id_marks» .entry)) (now (batch .entry)) (now (tallies .entry)))) newId ⌝ }
-    ensures { λ _. ⌜ newIdMemory caps (now («id_marks» .exit)) (now (batch .entry)) (now (tallies .exit))
-        ≡ memoryAfter (newIdMemory caps (now («id_marks» .entry)) (now (batch .entry)) (now (tallies .entry))) newId ⌝ }
+    ensures { λ r. ⌜ newIdAnswer r
+        ≡ answered newId (caps .ids) (caps .slots)
+        (now («id_marks» .entry))
+        (now (batch .entry))
+        (now (tallies .entry)) ⌝ }
+    ensures { λ _. ⌜ (lentTo newId (caps .ids) (caps .slots)
+        (now («id_marks» .exit))
+        (now (batch .entry))
+        (now (tallies .exit)))
+        ≡ leaves newId (caps .ids) (caps .slots)
+        (now («id_marks» .entry))
+        (now (batch .entry))
+        (now (tallies .entry)) ⌝ }
 {
     match next_id(caps, id_marks, batch, tallies) {
         NewId::Id(id) => {

@@ -13,20 +13,22 @@ use lib.ListN.{length, take, set, drop-of-length-le}
 use lib.Seq.{sets, sets-eq, take-nil}
 use borrow.Author.Tests.{lt-leb, le-leb, ltb-true, ltb-false}
 use Rattle.refusal.proofs.Tests.{by-test}
+use Rattle.list_parts.specs.Parts.{part}
 use Rattle.sizes.specs.Sizes.{slabFor}
-use Rattle.address.specs.Address.{slabs, unit, packing, badSlots, packed}
+use Rattle.address.specs.Address.{unit, packing, badSlots, packed, slabs}
 use Rattle.marks.specs.Marks.{firstFree, smallestFree}
 use Rattle.id_allocator.specs.Counted.{hinted, counted}
 use Rattle.id_allocator.proofs.LawsCounted.{counted-length, counted-smallestFree}
 use Rattle.model.specs.Batches.{updateOf, updatesOf, spot, spotFor, place}
 use Rattle.model.specs.Memory.{getWord, hintWords, waitingWords}
 use Rattle.model.specs.MemoryAfter.{Slots, tookSlot, takeSlot}
-use Rattle.model.specs.Tables.{write, part}
+use Rattle.model.specs.Tables.{write}
 use Rattle.model.proofs.Slabs.{length-countedSlabs}
 use Rattle.model.proofs.Steps.{Fits, Stepped, slotsRead, still, fits-on, slab-read, part-long, took-read}
-use Rattle.model.proofs.Tables.{isLocation-packing, slotPlace-packing, write-set}
+use Rattle.model.proofs.Locations.{isLocation-packing, slotPlace-packing}
+use Rattle.model.proofs.Writes.{write-set}
 use Rattle.tables.proofs.LawsEntries.{slabPart-is}
-use Rattle.offer_updates.specs.Kinds.{kindOf, kindsOf}
+use Rattle.offer_updates.specs.Kinds.{freeKind, kindOf, kindsOf}
 use Rattle.offer_places.specs.Places.{nextIn, spotIn, placeIn}
 use Rattle.offer_places.proofs.Laws.{spotIn-none}
 
@@ -100,7 +102,7 @@ module _ (cap : ℕ) (s : Slots) (f : Fits cap s) (good : badSlots cap ≡ false
       found : Found → Stepped cap s (takeSlot cap s (packing k j)) (write cap (packing k j) 1 t)
       found q =
           let hj : j < cap = q .slot in
-          let hk : k < 78 = q .slab in
+          let hk : k < slabs = q .slab in
           let c : cap ≤ 65536 = f .high in
           let v = isLocation-packing cap k j c hk hj in
           let d : packing k j / unit ≡ suc k = omega arith in
@@ -113,7 +115,7 @@ module _ (cap : ℕ) (s : Slots) (f : Fits cap s) (good : badSlots cap ≡ false
 
 spot-kind : (cap : ℕ) (s : Slots) → Fits cap s → badSlots cap ≡ false → (b : Bool) (x n : ℕ) → spotIn cap s (kindOf b n) ≡ spotFor cap (slotsRead cap s) (updateOf b x n)
 spot-kind cap s f good true x n = spotIn-spot cap s f good (slabFor n)
-spot-kind cap s f good false x n = spotIn-none cap s 79 (omega arith)
+spot-kind cap s f good false x n = spotIn-none cap s freeKind (omega arith)
 
 pub place-read : (cap : ℕ) → badSlots cap ≡ false → (is : List ℕ) (ss : List Bool) (ns : List ℕ) (s : Slots) → Fits cap s → length ss ≡ length is → length ns ≡ length is
     → placeIn cap s (kindsOf ss ns) ≡ place cap (slotsRead cap s) (updatesOf is ss ns)

@@ -12,7 +12,8 @@ use lib.Seq.{getD-set-same}
 use borrow.Author.Tests.{eqb-true, eqb-false, ne-eqb}
 use Rattle.refusal.specs.Refusals.{noneFree}
 use Rattle.refusal.proofs.Tests.{by-test}
-use Rattle.address.specs.Address.{badSlots}
+use Rattle.list_parts.specs.Parts.{part}
+use Rattle.address.specs.Address.{badSlots, slabs}
 use Rattle.marks.specs.Marks.{isFree, countIf}
 use Rattle.id_allocator.specs.Counted.{hinted}
 use Rattle.marks.specs.Turned.{isMark}
@@ -20,12 +21,13 @@ use Rattle.id_allocator.proofs.LawsCounted.{counted-free}
 use Rattle.model.specs.Batches.{updateOf, updatesOf, asks, asked, room}
 use Rattle.model.specs.Memory.{getWord, hintWords, waitingWords}
 use Rattle.model.specs.MemoryAfter.{Slots}
-use Rattle.model.specs.Tables.{bump, part}
+use Rattle.model.specs.Tables.{mostUpdates, bump}
 use Rattle.model.specs.Verdict.{test, _⨾_}
 use Rattle.model.proofs.Steps.{Fits, slotsRead, slab-read}
-use Rattle.model.proofs.Tables.{length-bump, bump-other, zeros}
+use Rattle.model.proofs.Lists.{zeros}
+use Rattle.model.proofs.Writes.{length-bump, bump-other}
 use Rattle.tables.proofs.LawsEntries.{slabPart-is}
-use Rattle.offer_updates.specs.Kinds.{kindOf, kindsOf}
+use Rattle.offer_updates.specs.Kinds.{freeKind, kindOf, kindsOf}
 use Rattle.offer_room.specs.Room.{noneAsked, tallied, freeIn, roomIn}
 use Rattle.offer.proofs.LawsUpdates.{length-kindsOf}
 
@@ -44,7 +46,7 @@ tallied-at (x ∷ ks) t k h b =
     let r = tallied-at ks (bump t x 1) k (rw length-bump h) (omega arith) in
     rw e (r ∙ omega arith))
 
-asked-kinds : (k : ℕ) → k < 78 → (is : List ℕ) (ss : List Bool) (ns : List ℕ) → length ss ≡ length is → length ns ≡ length is
+asked-kinds : (k : ℕ) → k < slabs → (is : List ℕ) (ss : List Bool) (ns : List ℕ) → length ss ≡ length is → length ns ≡ length is
     → countIf (isMark k) (kindsOf ss ns) ≡ asked k (updatesOf is ss ns)
 asked-kinds k h [] [] ns p q = refl
 asked-kinds k h [] (b ∷ ss) ns p q = absurd (suc-ne-zero (length ss) p)
@@ -55,21 +57,21 @@ asked-kinds k h (x ∷ is) (b ∷ ss) (n ∷ ns) p q = by b ∙ ap (λ r. cond (
     by : (b : Bool) → cond (isMark k (kindOf b n)) (suc (countIf (isMark k) (kindsOf ss ns))) (countIf (isMark k) (kindsOf ss ns))
         ≡ cond (asks k (updateOf b x n)) (suc (countIf (isMark k) (kindsOf ss ns))) (countIf (isMark k) (kindsOf ss ns))
     by true = refl
-    by false = rw (ne-eqb 79 k (λ (e : 79 ≡ k). omega arith))
+    by false = rw (ne-eqb freeKind k (λ (e : freeKind ≡ k). omega arith))
 
-tallied-asked : (is : List ℕ) (ss : List Bool) (ns : List ℕ) → length ss ≡ length is → length ns ≡ length is → length is ≤ 256 → (k : ℕ) → k < 78
+tallied-asked : (is : List ℕ) (ss : List Bool) (ns : List ℕ) → length ss ≡ length is → length ns ≡ length is → length is ≤ mostUpdates → (k : ℕ) → k < slabs
     → getD (tallied noneAsked (kindsOf ss ns)) k 0 ≡ asked k (updatesOf is ss ns)
 unfolding noneAsked
 tallied-asked is ss ns p q few k h =
-    let z : getD {A = ℕ} (replicate 78 0) k 0 ≡ 0 = zeros 78 k in
-    let l : length (kindsOf ss ns) ≤ 256 = omega (arith, length-kindsOf ss ns (q ∙ sym p)) in
-    let e = tallied-at (kindsOf ss ns) (replicate 78 0) k h (omega arith) in
-    let w : getD {A = ℕ} (replicate 78 0) k 0 + countIf (isMark k) (kindsOf ss ns) ≡ countIf (isMark k) (kindsOf ss ns) = omega arith in
+    let z : getD {A = ℕ} (replicate slabs 0) k 0 ≡ 0 = zeros slabs k in
+    let l : length (kindsOf ss ns) ≤ mostUpdates = omega (arith, length-kindsOf ss ns (q ∙ sym p)) in
+    let e = tallied-at (kindsOf ss ns) (replicate slabs 0) k h (omega arith) in
+    let w : getD {A = ℕ} (replicate slabs 0) k 0 + countIf (isMark k) (kindsOf ss ns) ≡ countIf (isMark k) (kindsOf ss ns) = omega arith in
     e ∙ w ∙ asked-kinds k h is ss ns p q
 
 -- ---- the test slab by slab
 module _ (cap : ℕ) (s : Slots) (f : Fits cap s) (good : badSlots cap ≡ false) where
-  freeIn-read : (k : ℕ) → k < 78 → freeIn cap (s .marks) (s .words) k ≡ countIf isFree (part cap (slotsRead cap s) k)
+  freeIn-read : (k : ℕ) → k < slabs → freeIn cap (s .marks) (s .words) k ≡ countIf isFree (part cap (slotsRead cap s) k)
   unfolding freeIn
   freeIn-read k h =
       ap (λ x. countIf isFree (hinted (getWord (s .words) hintWords (k + 1)) x)) (slabPart-is cap k (s .marks) h good)
@@ -77,7 +79,7 @@ module _ (cap : ℕ) (s : Slots) (f : Fits cap s) (good : badSlots cap ≡ false
       ∙ sym (counted-free (getWord (s .words) hintWords (suc k)) (getWord (s .words) waitingWords (suc k)) (part cap (s .marks) k))
       ∙ ap (countIf isFree) (sym (slab-read cap s f k h))
 
-  pub room-read : (is : List ℕ) (ss : List Bool) (ns : List ℕ) → length ss ≡ length is → length ns ≡ length is → length is ≤ 256 → (n k : ℕ) → k + n ≤ 78
+  pub room-read : (is : List ℕ) (ss : List Bool) (ns : List ℕ) → length ss ≡ length is → length ns ≡ length is → length is ≤ mostUpdates → (n k : ℕ) → k + n ≤ slabs
       → roomIn cap (s .marks) (s .words) (tallied noneAsked (kindsOf ss ns)) n k ≡ room cap (slotsRead cap s) (updatesOf is ss ns) n k
   unfolding roomIn room
   room-read is ss ns p q few zero k h = refl

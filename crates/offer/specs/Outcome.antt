@@ -1,19 +1,17 @@
 -- What an offer answers and leaves, in the model's words. Assumes nothing.
-use mathlib.Core.Bool.{Bool}
 use mathlib.Core.List.{List}
 use Prim.Native.Nat.{ℕ}
-use Rattle.model.specs.Lent.{placedIn}
+use Rattle.refusal.specs.Outcomes.{finishedAs}
+use Rattle.refusal.specs.declared.Finished.{Finished}
 use Rattle.model.specs.Memory.{Memory, read}
 use Rattle.model.specs.MemoryAfter.{memoryAfter}
+use Rattle.model.specs.Outcomes.{listIn}
 use Rattle.model.specs.Step.{answer}
-use Rattle.model.specs.Store.{Answer, refused, placed, offer}
-use Rattle.offer.specs.declared.Offered.{Offered}
-use Rattle.offer.specs.declared.Offered.the-variants as O
+use Rattle.model.specs.Store.{Offer, offer, placed, Answer}
 
 -- the answer, with the lent list as it is then
-abbrev pub answerOf : Offered → List ℕ → Answer
-answerOf O.Done ls = placed ls
-answerOf (O.Refused r) ls = refused (r .number) (r .index)
+abbrev pub offeredAnswer : Finished → List ℕ → Answer
+offeredAnswer f ls = finishedAs (placed ls) f
 
 -- what an offer leaves: its answer, the tables that it may change, and the lent list
 pub record Left : Type 0 where
@@ -23,11 +21,11 @@ pub record Left : Type 0 where
   pub tallies : List ℕ
   pub placed : List ℕ
 
-unfoldable pub offerLeaves : Memory → List ℕ → List Bool → List ℕ → List ℕ → Left
-offerLeaves m is ss ns out = record {
-  answer = answer (read m) (offer is ss ns out);
-  slotMarks = memoryAfter m (offer is ss ns out) .slotMarks;
-  batch = memoryAfter m (offer is ss ns out) .batch;
-  tallies = memoryAfter m (offer is ss ns out) .tallies;
-  placed = placedIn (answer (read m) (offer is ss ns out)) out;
+unfoldable pub offerLeaves : Memory → Offer → Left
+offerLeaves m o = record {
+  answer = answer (read m) (offer o);
+  slotMarks = memoryAfter m (offer o) .slotMarks;
+  batch = memoryAfter m (offer o) .batch;
+  tallies = memoryAfter m (offer o) .tallies;
+  placed = listIn 0 (answer (read m) (offer o)) (o .placed);
 }

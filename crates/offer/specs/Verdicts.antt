@@ -3,9 +3,10 @@
 use mathlib.Core.Bool.{Bool, _&&_}
 use Prim.Native.Nat.{ℕ}
 use lib.Dec.{eqb}
-use Rattle.tables.specs.Shapes.{allFit}
+use Rattle.model.specs.Lending.{everyTable}
+use Rattle.model.specs.Lent.{fitsBy}
 
 -- refusal 1 in lengths, with those of the call's own lists
 unfoldable pub offerFits : ℕ → ℕ → ℕ → ℕ → ℕ → ℕ → ℕ → ℕ → ℕ → ℕ → ℕ → ℕ → Bool
 offerFits ids slots idMarks locations slotMarks owners batch tallies n stores lengths list =
-    allFit ids slots idMarks locations slotMarks owners batch tallies && (eqb stores n && eqb lengths n && eqb list n)
+    fitsBy everyTable ids slots idMarks locations slotMarks owners batch tallies && (eqb stores n && eqb lengths n && eqb list n)

@@ -4,33 +4,28 @@
 //     // ids 4 and 7 get objects of 3 and 300 bytes, 5 is freed
 //     match offer::offer(caps, &id_marks, &locations, &mut slot_marks, &owners, &mut batch, &mut tallies,
 //         &[4, 7, 5], &[true, true, false], &[3, 300, 0], &mut placed) {
-//         Offered::Done => ..,              // placed has a packed location for each update, 0 for the Free
-//         Offered::Refused(refusal) => ..,  // nothing is written
+//         Finished::Done => ..,              // placed has a packed location for each update, 0 for the Free
+//         Finished::Refused(refusal) => ..,  // nothing is written
 //     }
 //
 // What could refuse only reads (`offer_updates`, `offer_room`); what is written comes after it and cannot fail (`offer_places`).
 ghost use mathlib.Core.Path.{_≡_};
 ghost use mathlib.Core.List.{[]};
-ghost use Rattle.model.specs.Verdict.{_⨾_};
-ghost use Rattle.model.specs.Memory.{memoryOf};
-ghost use Rattle.offer.specs.Outcome.{answerOf, Left, offerLeaves};
-ghost use Rattle.tables.specs.Verdicts.{judgedVerdict};
+ghost use Rattle.model.specs.Verdict.{_⨾_, judgedVerdict};
+ghost use Rattle.model.specs.Lending.{everyTable, placeTables};
+ghost use Rattle.model.specs.Lent.{lentBy};
+ghost use Rattle.offer.specs.Outcome.{offeredAnswer, Left, offerLeaves};
 ghost use Rattle.offer.specs.Verdicts.{offerFits};
 ghost use Rattle.offer_updates.specs.Kinds.{checkIn};
-ghost use Rattle.offer_room.specs.Room.{roomIn, tallied, noneAsked};
+ghost use Rattle.offer_room.specs.Room.{roomInAll, tallied, noneAsked};
+use refusal::Finished;
+use refusal::Judged;
 use refusal::Refusal;
 use tables::Capacities;
-use tables::Judged;
 use tables::MOST_UPDATES;
 use tables::all_fit;
 use tables::both;
 use tables::get;
-
-// The lent list has the locations where it is `Done`.
-pub enum Offered {
-    Done,
-    Refused(Refusal),
-}
 
 // Refusal 1, by lengths.
 fn fits(
@@ -46,7 +41,8 @@ fn fits(
     lengths: usize,
     placed: usize,
 ) -> bool
-    ensures { λ r. ⌜ r ≡ offerFits (caps .ids) (caps .slots) «id_marks» locations «slot_marks» owners batch tallies ids stores lengths placed ⌝ }
+    ensures { λ r. ⌜ r ≡ offerFits (caps .ids) (caps .slots)
+        «id_marks» locations «slot_marks» owners batch tallies ids stores lengths placed ⌝ }
 {
     both(
         all_fit(
@@ -73,7 +69,14 @@ fn refused(
     ids: &[u64],
     slabs: &[usize],
 ) -> Judged
-    ensures { λ r. ⌜ judgedVerdict r ≡ (checkIn (memoryOf (caps .ids) (caps .slots) (now («id_marks» .entry)) (now (locations .entry)) (now («slot_marks» .entry)) (now (owners .entry)) [] (now (tallies .entry))) [] 0 (now (ids .entry)) (now (slabs .entry)) ⨾ roomIn (caps .slots) (now («slot_marks» .entry)) (now (tallies .entry)) (tallied noneAsked (now (slabs .entry))) 78 0) ⌝ }
+    ensures { λ r. ⌜ judgedVerdict r
+        ≡ (checkIn (lentBy placeTables (caps .ids) (caps .slots)
+        (now («id_marks» .entry))
+        (now (locations .entry))
+        (now («slot_marks» .entry))
+        (now (owners .entry))
+        (now (tallies .entry))) [] 0 (now (ids .entry)) (now (slabs .entry))
+        ⨾ roomInAll (caps .slots) (now («slot_marks» .entry)) (now (tallies .entry)) (tallied noneAsked (now (slabs .entry)))) ⌝ }
 {
     let slots = caps.slots;
     let checked = offer_updates::check(
@@ -106,8 +109,28 @@ pub fn offer(
     stores: &[bool],
     lengths: &[u64],
     placed: &mut [u64],
-) -> Offered
-    ensures { λ r. ⌜ _≡_ {A = Left} (record { answer = answerOf r (now (placed .exit)); slotMarks = now («slot_marks» .exit); batch = now (batch .exit); tallies = now (tallies .exit); placed = now (placed .exit) }) (offerLeaves (memoryOf (caps .ids) (caps .slots) (now («id_marks» .entry)) (now (locations .entry)) (now («slot_marks» .entry)) (now (owners .entry)) (now (batch .entry)) (now (tallies .entry))) (now (ids .entry)) (now (stores .entry)) (now (lengths .entry)) (now (placed .entry))) ⌝ }
+) -> Finished
+    ensures { λ r. ⌜ _≡_ {A = Left} (record {
+      answer = offeredAnswer r (now (placed .exit));
+      slotMarks = now («slot_marks» .exit);
+      batch = now (batch .exit);
+      tallies = now (tallies .exit);
+      placed = now (placed .exit);
+    })
+        (offerLeaves
+        (lentBy everyTable (caps .ids) (caps .slots)
+        (now («id_marks» .entry))
+        (now (locations .entry))
+        (now («slot_marks» .entry))
+        (now (owners .entry))
+        (now (batch .entry))
+        (now (tallies .entry)))
+        (record {
+          ids = now (ids .entry);
+          stores = now (stores .entry);
+          lengths = now (lengths .entry);
+          placed = now (placed .entry);
+        })) ⌝ }
 {
     let n = ids.len();
     let slots = caps.slots;
@@ -124,13 +147,13 @@ pub fn offer(
         lengths.len(),
         placed.len(),
     ) {
-        return Offered::Refused(Refusal::of(Refusal::WRONG_SHAPE));
+        return Finished::Refused(Refusal::of(Refusal::WRONG_SHAPE));
     }
     if get(batch, 0, 0) != 0 {
-        return Offered::Refused(Refusal::of(Refusal::BATCH_OPEN));
+        return Finished::Refused(Refusal::of(Refusal::BATCH_OPEN));
     }
     if n > MOST_UPDATES {
-        return Offered::Refused(Refusal::of(Refusal::TOO_MANY));
+        return Finished::Refused(Refusal::of(Refusal::TOO_MANY));
     }
     let all = offer_updates::kinds(stores, lengths);
     let slabs = &all[..n];
@@ -145,9 +168,9 @@ pub fn offer(
         slabs,
     );
     if let Judged::Refused(refusal) = judged {
-        return Offered::Refused(refusal);
+        return Finished::Refused(refusal);
     }
     offer_places::place(slots, slot_marks, tallies, slabs, placed);
     offer_places::keep(batch, ids, placed, n as u64 + 1);
-    Offered::Done
+    Finished::Done
 }

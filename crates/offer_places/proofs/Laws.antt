@@ -10,7 +10,7 @@ use lib.ListN.{length, getD, drop, set, drop-of-length-le}
 use lib.Seq.{sets, drop-cons}
 use borrow.Author.Tests.{lt-ltb, le-ltb, ne-eqb}
 use Rattle.refusal.proofs.Tests.{by-test}
-use Rattle.address.specs.Address.{slabs, unit, packing, isLocation, badSlots, packed, unpacked}
+use Rattle.address.specs.Address.{unit, packing, isLocation, badSlots, packed, unpacked, locationIn, slabs}
 use Rattle.address.specs.declared.SlabAddress.{SlabAddress}
 use Rattle.address.specs.declared.Packed.{Packed}
 use Rattle.address.specs.declared.Unpacked.{Unpacked}
@@ -18,12 +18,12 @@ use Rattle.address.specs.declared.Unpacked.the-variants as U
 use Rattle.address.proofs.Laws.{unpacked-at, slots-range}
 use Rattle.marks.specs.Marks.{smallestFree}
 use Rattle.id_allocator.specs.Counted.{hinted}
-use Rattle.model.specs.Memory.{getWord, hintWords}
+use Rattle.model.specs.Memory.{keptIdsAt, keptLocationsAt, grantedWords, usedWords, hintWords, wordAt, getWord, putWord}
 use Rattle.model.specs.MemoryAfter.{Slots, tookSlot, takeSlot, takeSlots}
 use Rattle.model.specs.Tables.{bump}
-use Rattle.model.proofs.Tables.{isLocation-packing, isLocation-nz}
+use Rattle.model.proofs.Locations.{isLocation-packing, isLocation-nz}
 use Rattle.tables.specs.Entries.{slabPart}
-use Rattle.offer_places.specs.Places.{slotsIn, locationIn, nextIn, spotIn, placeIn}
+use Rattle.offer_places.specs.Places.{slotsIn, nextIn, spotIn, placeIn}
 
 -- ---- spotIn
 pub spotIn-none : (cap : ℕ) (s : Slots) (k : ℕ) → slabs ≤ k → spotIn cap s k ≡ 0
@@ -63,13 +63,13 @@ takeSlot-none cap l s good e =
     (λ h. rw h)
 
 pub takeSlot-at : (cap l : ℕ) (s : Slots) (a : SlabAddress) (ms g₁ g₂ g₃ : List ℕ) → unpacked cap l ≡ U.At a
-    → ms ≡ set (s .marks) (a .slab * cap + a .slot) 1 → g₁ ≡ bump (s .words) (0 + (a .slab + 1)) 1
-    → g₂ ≡ set g₁ (158 + (a .slab + 1)) 1 → g₃ ≡ set g₂ (237 + (a .slab + 1)) (a .slot + 1) → slotsIn ms g₃ ≡ takeSlot cap s l
+    → ms ≡ set (s .marks) (a .slab * cap + a .slot) 1 → g₁ ≡ bump (s .words) (wordAt grantedWords (a .slab + 1)) 1
+    → g₂ ≡ putWord g₁ usedWords (a .slab + 1) 1 → g₃ ≡ putWord g₂ hintWords (a .slab + 1) (a .slot + 1) → slotsIn ms g₃ ≡ takeSlot cap s l
 takeSlot-at cap l s a ms g₁ g₂ g₃ e em e₁ e₂ e₃ =
     let u = unpacked-at cap l a e in
     let c = slots-range cap (u .capacity) in
     let w : packing (a .slab) (a .slot) ≡ l = u .whole in
-    let hk : a .slab < 78 = u .slab-lt in
+    let hk : a .slab < slabs = u .slab-lt in
     let hj : a .slot < cap = u .slot-lt in
     let v : isLocation cap l ≡ true = ap (isLocation cap) (sym w) ∙ isLocation-packing cap (a .slab) (a .slot) (c .1) hk hj in
     let d : l / unit ≡ a .slab + 1 = omega arith in
@@ -78,8 +78,8 @@ takeSlot-at cap l s a ms g₁ g₂ g₃ e em e₁ e₂ e₃ =
     let t : takeSlot cap s l ≡ tookSlot cap s (a .slab + 1) (a .slot) =
     ap (λ b. cond b (tookSlot cap s (l / unit) (l % unit)) s) v ∙ (λ i. tookSlot cap s (d i) (r i)) in
     let m : ms ≡ set (s .marks) (pred (a .slab + 1) * cap + a .slot) 1 = em ∙ ap (λ x. set (s .marks) (x * cap + a .slot) 1) (sym p) in
-    let g : g₃ ≡ set (set (bump (s .words) (0 + (a .slab + 1)) 1) (158 + (a .slab + 1)) 1) (237 + (a .slab + 1)) (a .slot + 1) =
-    e₃ ∙ ap (λ x. set x (237 + (a .slab + 1)) (a .slot + 1)) (e₂ ∙ ap (λ x. set x (158 + (a .slab + 1)) 1) e₁) in
+    let g : g₃ ≡ putWord (putWord (bump (s .words) (wordAt grantedWords (a .slab + 1)) 1) usedWords (a .slab + 1) 1) hintWords (a .slab + 1) (a .slot + 1) =
+    e₃ ∙ ap (λ x. putWord x hintWords (a .slab + 1) (a .slot + 1)) (e₂ ∙ ap (λ x. putWord x usedWords (a .slab + 1) 1) e₁) in
     (λ i. slotsIn (m i) (g i)) ∙ sym t
 
 -- ---- a turn
@@ -123,5 +123,6 @@ sets-turn l l′ vs base i h e =
     let p : base + (i + 1) ≡ suc (base + i) = omega arith in
     rw (drop-cons vs i 0 h) (λ j. sets (e j) (p j) (drop (add-one i j) vs))
 
-pub kept-is : (b b₁ b₂ b₃ is ls : List ℕ) (n : ℕ) → b₁ ≡ sets b 1 is → b₂ ≡ sets b₁ 257 ls → b₃ ≡ set b₂ (0 + 0) n → b₃ ≡ set (sets (sets b 1 is) 257 ls) 0 n
-kept-is b b₁ b₂ b₃ is ls n e₁ e₂ e₃ = e₃ ∙ ap (λ x. set x 0 n) (e₂ ∙ ap (λ x. sets x 257 ls) e₁)
+pub kept-is : (b b₁ b₂ b₃ is ls : List ℕ) (n : ℕ) → b₁ ≡ sets b keptIdsAt is → b₂ ≡ sets b₁ keptLocationsAt ls → b₃ ≡ set b₂ (0 + 0) n
+    → b₃ ≡ set (sets (sets b keptIdsAt is) keptLocationsAt ls) 0 n
+kept-is b b₁ b₂ b₃ is ls n e₁ e₂ e₃ = e₃ ∙ ap (λ x. set x 0 n) (e₂ ∙ ap (λ x. sets x keptLocationsAt ls) e₁)

@@ -4,9 +4,7 @@ use mathlib.Core.Bool.{cond}
 use mathlib.Core.List.{List, [], _∷_}
 use Prim.Native.Nat.{ℕ, _+_}
 use lib.Dec.{ltb}
-use Rattle.address.specs.Address.{slabs, packed}
-use Rattle.address.specs.declared.Packed.{Packed}
-use Rattle.address.specs.declared.Packed.the-variants as P
+use Rattle.address.specs.Address.{packed, locationIn, slabs}
 use Rattle.marks.specs.Marks.{smallestFree}
 use Rattle.id_allocator.specs.Counted.{hinted}
 use Rattle.model.specs.Memory.{getWord, hintWords}
@@ -15,10 +13,6 @@ use Rattle.tables.specs.Entries.{slabPart}
 
 abbrev pub slotsIn : List ℕ → List ℕ → Slots
 slotsIn marks words = record { marks = marks; words = words }
-
-abbrev pub locationIn : Packed → ℕ
-locationIn (P.Location l) = l
-locationIn (P.Refused r) = 0
 
 -- slab k's smallest free slot
 abbrev pub nextIn : ℕ → Slots → ℕ → ℕ

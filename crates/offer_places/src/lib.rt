@@ -1,7 +1,7 @@
 // What a granted offer writes (document 01, "Ids, slots, pending"): the slots' marks and words, the lent list, the kept batch.
 //
-//     offer_places::place(slots, &mut slot_marks, &mut tallies, &[0, 9, 79], &mut placed);  // the smallest free slots of slabs 0 and 9; 0
-//     offer_places::keep(&mut batch, &[4, 7, 5], &placed, 4);                               // open, with three updates
+//     offer_places::place(slots, &mut slot_marks, &mut tallies, &[0, 9, SLABS], &mut placed);  // the first free slots of slabs 0 and 9; 0
+//     offer_places::keep(&mut batch, &[4, 7, 5], &placed, 4);                                  // open, with three updates
 //
 // Neither can fail: where a slab has no free slot the location is 0, and nothing is taken.
 ghost use mathlib.Core.Path.{_≡_};
@@ -9,6 +9,7 @@ ghost use mathlib.Core.Bool.{true, false};
 ghost use lib.ListN.{set};
 ghost use lib.Seq.{sets};
 ghost use Rattle.address.specs.Address.{badSlots, isLocation};
+ghost use Rattle.model.specs.Memory.{keptIdsAt, keptLocationsAt};
 ghost use Rattle.model.specs.MemoryAfter.{takeSlot, takeSlots};
 ghost use Rattle.offer_places.specs.Places.{slotsIn, spotIn, placeIn};
 use address::Packed;
@@ -43,7 +44,8 @@ fn spot(slots: usize, slot_marks: &[u8], tallies: &[u64], slab: usize) -> u64
 // A location's slot is taken, and its allocator's words say so; nothing where it is no location.
 fn take_slot(slots: usize, slot_marks: &mut [u8], tallies: &mut [u64], location: u64)
     requires { ⌜ (isLocation slots location ≡ true → badSlots slots ≡ false) ⌝ }
-    ensures { λ _. ⌜ slotsIn (now («slot_marks» .exit)) (now (tallies .exit)) ≡ takeSlot slots (slotsIn (now («slot_marks» .entry)) (now (tallies .entry))) location ⌝ }
+    ensures { λ _. ⌜ slotsIn (now («slot_marks» .exit)) (now (tallies .exit))
+        ≡ takeSlot slots (slotsIn (now («slot_marks» .entry)) (now (tallies .entry))) location ⌝ }
 {
     let Unpacked::At(address) = SlabAddress::unpack(slots, location) else {
         return;
@@ -64,7 +66,12 @@ pub fn place(
     slabs: &[usize],
     placed: &mut [u64],
 )
-    ensures { λ _. ⌜ (now (placed .exit) ≡ sets (now (placed .entry)) 0 (placeIn slots (slotsIn (now («slot_marks» .entry)) (now (tallies .entry))) (now (slabs .entry)))) × (slotsIn (now («slot_marks» .exit)) (now (tallies .exit)) ≡ takeSlots slots (slotsIn (now («slot_marks» .entry)) (now (tallies .entry))) (placeIn slots (slotsIn (now («slot_marks» .entry)) (now (tallies .entry))) (now (slabs .entry)))) ⌝ }
+    ensures { λ _. ⌜ (now (placed .exit)
+        ≡ sets (now (placed .entry)) 0
+        (placeIn slots (slotsIn (now («slot_marks» .entry)) (now (tallies .entry))) (now (slabs .entry))))
+        × (slotsIn (now («slot_marks» .exit)) (now (tallies .exit))
+        ≡ takeSlots slots (slotsIn (now («slot_marks» .entry)) (now (tallies .entry)))
+        (placeIn slots (slotsIn (now («slot_marks» .entry)) (now (tallies .entry))) (now (slabs .entry)))) ⌝ }
 {
     let mut i: usize = 0;
     while i < slabs.len() {
@@ -87,7 +94,8 @@ fn copy(words: &mut [u64], base: usize, from: &[u64])
 
 // The store keeps the batch. The opened word says how many updates it has.
 pub fn keep(batch: &mut [u64], ids: &[u64], placed: &[u64], opened: u64)
-    ensures { λ _. ⌜ now (batch .exit) ≡ set (sets (sets (now (batch .entry)) 1 (now (ids .entry))) 257 (now (placed .entry))) 0 opened ⌝ }
+    ensures { λ _. ⌜ now (batch .exit)
+        ≡ set (sets (sets (now (batch .entry)) keptIdsAt (now (ids .entry))) keptLocationsAt (now (placed .entry))) 0 opened ⌝ }
 {
     copy(batch, KEPT_IDS, ids);
     copy(batch, KEPT_LOCATIONS, placed);

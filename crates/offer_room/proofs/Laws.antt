@@ -12,6 +12,7 @@ use lib.Seq.{drop-cons}
 use borrow.Author.Tests.{ltb-true, ltb-false}
 use Rattle.refusal.specs.Refusals.{noneFree}
 use Rattle.refusal.proofs.Tests.{by-test}
+use Rattle.address.specs.Address.{slabs}
 use Rattle.marks.specs.Marks.{isFree, countIf, smallestFree}
 use Rattle.marks.proofs.LawsFree.{smallestFree-some}
 use Rattle.model.specs.Tables.{bump}
@@ -35,23 +36,23 @@ pub tallied-end : (t ks : List ℕ) (i : ℕ) → length ks ≤ i → tallied t 
 tallied-end t ks i h = rw (drop-of-length-le ks h)
 
 -- ---- the test slab by slab
-pub roomIn-turn : (cap : ℕ) (ms g t : List ℕ) (k : ℕ) → k < 78
-    → roomIn cap ms g t (78 - k) k ≡ (test (ltb (freeIn cap ms g k) (getD t k 0)) noneFree k ⨾ roomIn cap ms g t (78 - (k + 1)) (k + 1))
+pub roomIn-turn : (cap : ℕ) (ms g t : List ℕ) (k : ℕ) → k < slabs
+    → roomIn cap ms g t (slabs - k) k ≡ (test (ltb (freeIn cap ms g k) (getD t k 0)) noneFree k ⨾ roomIn cap ms g t (slabs - (k + 1)) (k + 1))
 unfolding roomIn
-roomIn-turn cap ms g t k h = let e : 78 - k ≡ suc (78 - (k + 1)) = omega arith in rw (e, add-one k)
+roomIn-turn cap ms g t k h = let e : slabs - k ≡ suc (slabs - (k + 1)) = omega arith in rw (e, add-one k)
 
-module _ (cap : ℕ) (ms g t : List ℕ) (k n : ℕ) (lacks : Bool) (h : k < 78) (e : n ≡ getD t (0 + k) 0) (l : lacks ≡ ltb (freeIn cap ms g k) n) where
+module _ (cap : ℕ) (ms g t : List ℕ) (k n : ℕ) (lacks : Bool) (h : k < slabs) (e : n ≡ getD t (0 + k) 0) (l : lacks ≡ ltb (freeIn cap ms g k) n) where
   told : ltb (freeIn cap ms g k) (getD t k 0) ≡ lacks
   told = let z : 0 + k ≡ k = omega arith in ap (ltb (freeIn cap ms g k)) (sym (e ∙ ap (λ x. getD t x 0) z)) ∙ sym l
 
-  pub room-stop : lacks ≡ true → refuse noneFree k ≡ roomIn cap ms g t (78 - k) k
+  pub room-stop : lacks ≡ true → refuse noneFree k ≡ roomIn cap ms g t (slabs - k) k
   unfolding test _⨾_
   room-stop b = sym (roomIn-turn cap ms g t k h ∙ rw (told ∙ b))
 
-  pub room-on : lacks ≡ false → roomIn cap ms g t (78 - (k + 1)) (k + 1) ≡ roomIn cap ms g t (78 - k) k
+  pub room-on : lacks ≡ false → roomIn cap ms g t (slabs - (k + 1)) (k + 1) ≡ roomIn cap ms g t (slabs - k) k
   unfolding test _⨾_
   room-on b = sym (roomIn-turn cap ms g t k h ∙ rw (told ∙ b))
 
-pub room-end : (cap : ℕ) (ms g t : List ℕ) (k : ℕ) → 78 ≤ k → ok ≡ roomIn cap ms g t (78 - k) k
+pub room-end : (cap : ℕ) (ms g t : List ℕ) (k : ℕ) → slabs ≤ k → ok ≡ roomIn cap ms g t (slabs - k) k
 unfolding roomIn
-room-end cap ms g t k h = let e : 78 - k ≡ 0 = omega arith in rw e
+room-end cap ms g t k h = let e : slabs - k ≡ 0 = omega arith in rw e

@@ -5,6 +5,7 @@ use Prim.Native.Nat.{ℕ, zero, suc, _+_}
 use lib.Dec.{ltb}
 use lib.ListN.{getD, replicate}
 use Rattle.refusal.specs.Refusals.{noneFree}
+use Rattle.address.specs.Address.{slabs}
 use Rattle.marks.specs.Marks.{isFree, countIf}
 use Rattle.id_allocator.specs.Counted.{hinted}
 use Rattle.model.specs.Memory.{getWord, hintWords}
@@ -13,7 +14,7 @@ use Rattle.model.specs.Verdict.{Verdict, ok, _⨾_, test}
 use Rattle.tables.specs.Entries.{slabPart}
 
 unfoldable pub noneAsked : List ℕ
-noneAsked = replicate 78 0
+noneAsked = replicate slabs 0
 
 -- one more for each slab of a list
 abbrev pub tallied : List ℕ → List ℕ → List ℕ
@@ -28,3 +29,6 @@ freeIn cap marks words k = countIf isFree (hinted (getWord words hintWords (k + 
 unfoldable pub roomIn : ℕ → List ℕ → List ℕ → List ℕ → ℕ → ℕ → Verdict
 roomIn cap marks words asked zero k = ok
 roomIn cap marks words asked (suc n) k = test (ltb (freeIn cap marks words k) (getD asked k 0)) noneFree k ⨾ roomIn cap marks words asked n (suc k)
+
+abbrev pub roomInAll : ℕ → List ℕ → List ℕ → List ℕ → Verdict
+roomInAll cap marks words asked = roomIn cap marks words asked slabs 0

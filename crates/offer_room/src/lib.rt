@@ -1,6 +1,6 @@
 // Room in the slabs (document 01, "Ids, slots, pending"): refusal 10 names the lowest slab that is asked for more slots than it has free.
 //
-//     let asked = offer_room::tally(&[0, 0, 9]);  // two slots of slab 0, one of slab 9; 78 and above ask for none
+//     let asked = offer_room::tally(&[0, 0, 9]);  // two slots of slab 0, one of slab 9; SLABS and above ask for none
 //     match offer_room::room(slots, &slot_marks, &tallies, &asked) {
 //         Judged::Passed => ..,
 //         Judged::Refused(refusal) => ..,  // its index is the slab's
@@ -11,23 +11,24 @@
 ghost use mathlib.Core.Path.{_≡_};
 ghost use Prim.Native.Nat.{_≤_};
 ghost use lib.Dec.{ltb};
+ghost use Rattle.address.specs.Address.{slabs};
 ghost use Rattle.marks.specs.Marks.{isFree, countIf};
 ghost use Rattle.id_allocator.specs.Counted.{hinted};
-ghost use Rattle.tables.specs.Verdicts.{judgedVerdict};
-ghost use Rattle.offer_room.specs.Room.{freeIn, roomIn, tallied, noneAsked};
+ghost use Rattle.model.specs.Verdict.{judgedVerdict};
+ghost use Rattle.offer_room.specs.Room.{freeIn, roomIn, tallied, noneAsked, roomInAll};
+use refusal::Judged;
 use refusal::Refusal;
 use tables::HINT;
-use tables::Judged;
 use tables::SLABS;
 use tables::add;
 use tables::get;
 use tables::slab_marks;
 
 // How many updates ask for a slot of each slab.
-pub fn tally(slabs: &[usize]) -> [u64; 78]
+pub fn tally(slabs: &[usize]) -> [u64; SLABS]
     ensures { λ r. ⌜ r ≡ tallied noneAsked (now (slabs .entry)) ⌝ }
 {
-    let mut asked = [0u64; 78];
+    let mut asked = [0u64; SLABS];
     let mut i: usize = 0;
     while i < slabs.len() {
         add(&mut asked, 0, slabs[i], 1);
@@ -99,7 +100,7 @@ fn lacks(marks: &[u8], hint: usize, asked: u64) -> bool
 }
 
 fn slab_lacks(slots: usize, slot_marks: &[u8], tallies: &[u64], slab: usize, asked: u64) -> bool
-    requires { ⌜ slab ≤ 78 ⌝ }
+    requires { ⌜ slab ≤ slabs ⌝ }
     ensures { λ r. ⌜ r ≡ ltb (freeIn slots (now («slot_marks» .entry)) (now (tallies .entry)) slab) asked ⌝ }
 {
     if asked == 0 {
@@ -110,7 +111,7 @@ fn slab_lacks(slots: usize, slot_marks: &[u8], tallies: &[u64], slab: usize, ask
 }
 
 pub fn room(slots: usize, slot_marks: &[u8], tallies: &[u64], asked: &[u64]) -> Judged
-    ensures { λ r. ⌜ judgedVerdict r ≡ roomIn slots (now («slot_marks» .entry)) (now (tallies .entry)) (now (asked .entry)) 78 0 ⌝ }
+    ensures { λ r. ⌜ judgedVerdict r ≡ roomInAll slots (now («slot_marks» .entry)) (now (tallies .entry)) (now (asked .entry)) ⌝ }
 {
     let mut slab: usize = 0;
     while slab < SLABS {

@@ -14,15 +14,16 @@ use borrow.Author.Tests.{eq-eqb, ne-eqb, ltb-false}
 use Rattle.refusal.specs.declared.Refusal.{Refusal}
 use Rattle.refusal.specs.Refusals.{tooLarge}
 use Rattle.refusal.proofs.Tests.{clash, by-test}
-use Rattle.sizes.specs.Sizes.{slabSizes, firstFit, slabFor, classOf, slabs, fieldWidth, checkWidth}
+use Rattle.list_parts.specs.Lists.{elem}
+use Rattle.list_parts.proofs.Lists.{elem-cases}
+use Rattle.sizes.specs.Sizes.{slabSizes, firstFit, slabFor, classOf, fieldWidth, checkWidth, slabs}
 use Rattle.sizes.specs.declared.Class.the-variants.{Slab, Refused}
 use Rattle.sizes.proofs.Laws.{length-slabSizes}
+use Rattle.model.specs.Tables.{mostUpdates}
 use Rattle.model.specs.Memory.{Memory}
-use Rattle.model.specs.Tables.{elem}
 use Rattle.model.specs.Verdict.{Verdict, ok, refuse}
-use Rattle.model.proofs.Tables.{elem-cases}
 use Rattle.tables.specs.Entries.{heldIn, badIn}
-use Rattle.offer_updates.specs.Kinds.{kindOf, kindsOf, before, numberBy, rowNumber, sayAt, checkIn}
+use Rattle.offer_updates.specs.Kinds.{noClassKind, freeKind, kindOf, kindsOf, before, numberBy, rowNumber, sayAt, checkIn}
 
 -- ---- the slab of an update
 firstFit-le : (n : ℕ) (ss : List ℕ) → firstFit n ss ≤ length ss
@@ -34,11 +35,11 @@ firstFit-le n (s ∷ ss) = by (leb (n + fieldWidth s + checkWidth) s) (firstFit-
     by true h = omega arith
     by false h = omega arith
 
-pub slabFor-le : (n : ℕ) → slabFor n ≤ 78
+pub slabFor-le : (n : ℕ) → slabFor n ≤ slabs
 unfolding slabFor
 slabFor-le n = omega (arith, firstFit-le n slabSizes, length-slabSizes)
 
-pub kindOf-free : (b : Bool) (n : ℕ) → not b ≡ true → 79 ≡ kindOf b n
+pub kindOf-free : (b : Bool) (n : ℕ) → not b ≡ true → freeKind ≡ kindOf b n
 kindOf-free true n e = clash (sym e)
 kindOf-free false n e = refl
 
@@ -50,7 +51,7 @@ kindOf-slab true n k h e =
     (λ t. let s : Slab (slabFor n) ≡ Slab k = rw t at e in cc)
     (λ t. let s : Refused (record { number = tooLarge; index = 0 }) ≡ Slab k = rw t at e in let z : _≡_ {A = ℕ} 0 1 = cc in absurd (omega arith))
 
-pub kindOf-none : (b : Bool) (n : ℕ) (r : Refusal) → not b ≡ false → classOf n ≡ Refused r → 78 ≡ kindOf b n
+pub kindOf-none : (b : Bool) (n : ℕ) (r : Refusal) → not b ≡ false → classOf n ≡ Refused r → noClassKind ≡ kindOf b n
 unfolding classOf
 kindOf-none false n r h e = clash h
 kindOf-none true n r h e =
@@ -113,30 +114,30 @@ unfolding numberBy
 row-repeated h r n b e f = rw (e, f)
 
 module _ (h r : Bool) (k : ℕ) (b : Bool) where
-  pub row-large : h ≡ true → r ≡ false → k ≡ 78 → 2 ≡ numberBy h r (eqb k 78) b
+  pub row-large : h ≡ true → r ≡ false → k ≡ noClassKind → 2 ≡ numberBy h r (eqb k noClassKind) b
   unfolding numberBy
-  row-large e f n = rw (e, f, eq-eqb k 78 n)
+  row-large e f n = rw (e, f, eq-eqb k noClassKind n)
 
-  pub row-bad : h ≡ true → r ≡ false → (k ≡ 78 → ⊥) → b ≡ true → 13 ≡ numberBy h r (eqb k 78) b
+  pub row-bad : h ≡ true → r ≡ false → (k ≡ noClassKind → ⊥) → b ≡ true → 13 ≡ numberBy h r (eqb k noClassKind) b
   unfolding numberBy
-  row-bad e f n t = rw (e, f, ne-eqb k 78 n, t)
+  row-bad e f n t = rw (e, f, ne-eqb k noClassKind n, t)
 
-  pub row-fine : h ≡ true → r ≡ false → (k ≡ 78 → ⊥) → b ≡ false → 0 ≡ numberBy h r (eqb k 78) b
+  pub row-fine : h ≡ true → r ≡ false → (k ≡ noClassKind → ⊥) → b ≡ false → 0 ≡ numberBy h r (eqb k noClassKind) b
   unfolding numberBy
-  row-fine e f n t = rw (e, f, ne-eqb k 78 n, t)
+  row-fine e f n t = rw (e, f, ne-eqb k noClassKind n, t)
 
 -- told by the location that the table has
 pub row-told : (m : Memory) (seen : List ℕ) (x k l n : ℕ)
-    → n ≡ numberBy (heldIn (m .ids) (m .idMarks) (m .tallies) x) (elem x seen) (eqb k 78) (badIn (m .slots) (m .slotMarks) (m .owners) (m .tallies) x l)
+    → n ≡ numberBy (heldIn (m .ids) (m .idMarks) (m .tallies) x) (elem x seen) (eqb k noClassKind) (badIn (m .slots) (m .slotMarks) (m .owners) (m .tallies) x l)
     → l ≡ getD (m .locations) (0 + x) 0 → n ≡ rowNumber m seen x k
 unfolding rowNumber
 row-told m seen x k l n e p =
     let z : 0 + x ≡ x = omega arith in
-    e ∙ ap (λ y. numberBy (heldIn (m .ids) (m .idMarks) (m .tallies) x) (elem x seen) (eqb k 78) (badIn (m .slots) (m .slotMarks) (m .owners) (m .tallies) x y)) (p ∙ ap (λ y. getD (m .locations) y 0) z)
+    e ∙ ap (λ y. numberBy (heldIn (m .ids) (m .idMarks) (m .tallies) x) (elem x seen) (eqb k noClassKind) (badIn (m .slots) (m .slotMarks) (m .owners) (m .tallies) x y)) (p ∙ ap (λ y. getD (m .locations) y 0) z)
 
 -- the locations found so far
-pub found-on : (ls is found : List ℕ) (i v : ℕ) → length found ≡ 256 → i < 256 → v ≡ getD ls (0 + getD is i 0) 0
-    → ((k : ℕ) → k < i → k < 256 → getD found k 0 ≡ getD ls (0 + getD is k 0) 0) → (k : ℕ) → k < i + 1 → k < 256 → getD (set found i v) k 0 ≡ getD ls (0 + getD is k 0) 0
+pub found-on : (ls is found : List ℕ) (i v : ℕ) → length found ≡ mostUpdates → i < mostUpdates → v ≡ getD ls (0 + getD is i 0) 0
+    → ((k : ℕ) → k < i → k < mostUpdates → getD found k 0 ≡ getD ls (0 + getD is k 0) 0) → (k : ℕ) → k < i + 1 → k < mostUpdates → getD (set found i v) k 0 ≡ getD ls (0 + getD is k 0) 0
 found-on ls is found i v l h e f k a b = by (ℕ-discrete k i)
   where
     by : Dec (k ≡ i) → getD (set found i v) k 0 ≡ getD ls (0 + getD is k 0) 0

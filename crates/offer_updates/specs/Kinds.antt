@@ -6,16 +6,24 @@ use Prim.Native.Nat.{ℕ, zero, suc}
 use lib.Dec.{eqb}
 use lib.ListN.{getD, replicate}
 use Rattle.refusal.specs.Refusals.{noSuchId, repeatedId, tooLarge, tablesDisagree}
-use Rattle.sizes.specs.Sizes.{slabFor}
+use Rattle.list_parts.specs.Lists.{elem}
+use Rattle.sizes.specs.Sizes.{slabs, slabFor}
+use Rattle.model.specs.Tables.{mostUpdates}
 use Rattle.model.specs.Memory.{Memory}
-use Rattle.model.specs.Tables.{elem}
 use Rattle.model.specs.Verdict.{Verdict, ok, refuse}
 use Rattle.tables.specs.Entries.{heldIn, badIn}
 
--- the slab that an update asks for a slot of: 78 for a Store whose object has no class, 79 for a Free
+-- past the slabs: a Store whose object has no class, then a Free
+abbrev pub noClassKind : ℕ
+noClassKind = slabs
+
+abbrev pub freeKind : ℕ
+freeKind = suc noClassKind
+
+-- the slab that an update asks for a slot of; of an object that has no class slabFor says noClassKind
 abbrev pub kindOf : Bool → ℕ → ℕ
 kindOf true n = slabFor n
-kindOf false n = 79
+kindOf false n = freeKind
 
 abbrev pub kindsOf : List Bool → List ℕ → List ℕ
 kindsOf [] ns = []
@@ -24,7 +32,7 @@ kindsOf (s ∷ ss) (n ∷ ns) = kindOf s n ∷ kindsOf ss ns
 
 -- before the first update
 unfoldable pub noKinds : List ℕ
-noKinds = replicate 256 79
+noKinds = replicate mostUpdates freeKind
 
 -- the ids before update i, the last one first
 abbrev pub before : ℕ → List ℕ → List ℕ
@@ -38,7 +46,7 @@ numberBy held repeated none bad = cond held (cond repeated repeatedId (cond none
 -- of id x, after those seen, and slab k
 unfoldable pub rowNumber : Memory → List ℕ → ℕ → ℕ → ℕ
 rowNumber m seen x k =
-    numberBy (heldIn (m .ids) (m .idMarks) (m .tallies) x) (elem x seen) (eqb k 78)
+    numberBy (heldIn (m .ids) (m .idMarks) (m .tallies) x) (elem x seen) (eqb k noClassKind)
     (badIn (m .slots) (m .slotMarks) (m .owners) (m .tallies) x (getD (m .locations) x 0))
 
 -- refused where the number is not 0

@@ -1,7 +1,7 @@
-// The updates of an offer (document 01, "Ids, slots, pending"): the slab that each asks for a slot of, worked out once, and the refusals that
-// are given per update: 8, 9, 2 and 13, in that order.
+// The updates of an offer (document 01, "Ids, slots, pending"): the slab that each asks for a slot of, worked out once, and the refusals
+// that are given per update: 8, 9, 2 and 13, in that order.
 //
-//     let all = offer_updates::kinds(&[true, true, false], &[3, 300, 0]);  // the slabs of 3 and of 300 bytes, then 79: a Free asks for none
+//     let all = offer_updates::kinds(&[true, true, false], &[3, 300, 0]);  // the slabs of 3 and of 300 bytes; a Free asks for none
 //     match offer_updates::check(caps, &id_marks, &locations, &slot_marks, &owners, &tallies, &[4, 7, 5], &all[..3]) {
 //         Judged::Passed => ..,
 //         Judged::Refused(refusal) => ..,  // its index is the update's
@@ -13,15 +13,17 @@ ghost use Prim.Native.Nat.{ℕ, _+_, _<_};
 ghost use lib.Dec.{eqb};
 ghost use lib.ListN.{length, getD};
 ghost use lib.Seq.{sets};
-ghost use Rattle.model.specs.Tables.{elem};
-ghost use Rattle.model.specs.Memory.{memoryOf};
+ghost use Rattle.list_parts.specs.Lists.{elem};
+ghost use Rattle.model.specs.Tables.{mostUpdates};
+ghost use Rattle.model.specs.Lending.{placeTables};
+ghost use Rattle.model.specs.Lent.{lentBy};
+ghost use Rattle.model.specs.Verdict.{judgedVerdict};
 ghost use Rattle.tables.specs.Entries.{heldIn, badIn};
-ghost use Rattle.tables.specs.Verdicts.{judgedVerdict};
-ghost use Rattle.offer_updates.specs.Kinds.{noKinds, kindOf, kindsOf, before, numberBy, checkIn};
+ghost use Rattle.offer_updates.specs.Kinds.{noClassKind, noKinds, kindOf, kindsOf, before, numberBy, checkIn};
+use refusal::Judged;
 use refusal::Refusal;
 use sizes::Class;
 use tables::Capacities;
-use tables::Judged;
 use tables::MOST_UPDATES;
 use tables::SLABS;
 use tables::bad_location;
@@ -31,7 +33,7 @@ use tables::held_id;
 // A Store whose object has no class, and a Free, among the slabs that updates ask for.
 const NO_CLASS: usize = SLABS;
 
-const NO_SLAB: usize = 79;
+const NO_SLAB: usize = NO_CLASS + 1;
 
 // Ids with the same remainder share a byte that says whether one of them was seen.
 const BUCKETS: u64 = 4096;
@@ -49,11 +51,11 @@ fn kind(store: bool, length: u64) -> usize
     }
 }
 
-// Of the first 256 updates.
-pub fn kinds(stores: &[bool], lengths: &[u64]) -> [usize; 256]
+// Of as many updates as a batch can have.
+pub fn kinds(stores: &[bool], lengths: &[u64]) -> [usize; MOST_UPDATES]
     ensures { λ r. ⌜ r ≡ sets noKinds 0 (kindsOf (now (stores .entry)) (now (lengths .entry))) ⌝ }
 {
-    let mut slabs = [NO_SLAB; 256];
+    let mut slabs = [NO_SLAB; MOST_UPDATES];
     let mut i: usize = 0;
     while i < stores.len() {
         if lengths.len() <= i {
@@ -95,11 +97,14 @@ fn earlier(ids: &[u64], i: usize, near: bool) -> bool
     repeated(ids, i)
 }
 
-// The locations of the first 256 ids. All are read before the first is judged, so that no read of a far place in memory waits for another.
-fn locations_of(locations: &[u64], ids: &[u64]) -> [u64; 256]
-    ensures { λ r. ⌜ (length r ≡ 256) × ((k : ℕ) → k < length (now (ids .entry)) → k < 256 → getD r k 0 ≡ getD (now (locations .entry)) (0 + getD (now (ids .entry)) k 0) 0) ⌝ }
+// The locations of as many ids as a batch can have. All are read before the first is judged, so that no read of a far place in memory
+// waits for another.
+fn locations_of(locations: &[u64], ids: &[u64]) -> [u64; MOST_UPDATES]
+    ensures { λ r. ⌜ (length r ≡ mostUpdates)
+        × ((k : ℕ) → k < length (now (ids .entry)) → k < mostUpdates
+        → getD r k 0 ≡ getD (now (locations .entry)) (0 + getD (now (ids .entry)) k 0) 0) ⌝ }
 {
-    let mut found = [0u64; 256];
+    let mut found = [0u64; MOST_UPDATES];
     let mut i: usize = 0;
     while i < ids.len() {
         if MOST_UPDATES <= i {
@@ -113,7 +118,10 @@ fn locations_of(locations: &[u64], ids: &[u64]) -> [u64; 256]
 
 // The location of the id of update i: from those found, past them from the table.
 fn location_of(found: &[u64], locations: &[u64], ids: &[u64], i: usize) -> u64
-    requires { ⌜ (i < length (now ids)) × (length (now found) ≡ 256) × ((k : ℕ) → k < length (now ids) → k < 256 → getD (now found) k 0 ≡ getD (now locations) (0 + getD (now ids) k 0) 0) ⌝ }
+    requires { ⌜ (i < length (now ids))
+        × (length (now found) ≡ mostUpdates)
+        × ((k : ℕ) → k < length (now ids) → k < mostUpdates
+        → getD (now found) k 0 ≡ getD (now locations) (0 + getD (now ids) k 0) 0) ⌝ }
     ensures { λ r. ⌜ r ≡ getD (now (locations .entry)) (0 + getD (now (ids .entry)) i 0) 0 ⌝ }
 {
     if i < MOST_UPDATES {
@@ -136,7 +144,13 @@ fn number(
     near: bool,
 ) -> u8
     requires { ⌜ (i < length (now ids)) × (near ≡ false → elem (getD (now ids) i 0) (before i (now ids)) ≡ false) ⌝ }
-    ensures { λ r. ⌜ r ≡ numberBy (heldIn (caps .ids) (now («id_marks» .entry)) (now (tallies .entry)) (getD (now (ids .entry)) i 0)) (elem (getD (now (ids .entry)) i 0) (before i (now (ids .entry)))) (eqb slab 78) (badIn (caps .slots) (now («slot_marks» .entry)) (now (owners .entry)) (now (tallies .entry)) (getD (now (ids .entry)) i 0) location) ⌝ }
+    ensures { λ r. ⌜ r
+        ≡ numberBy
+        (heldIn (caps .ids) (now («id_marks» .entry)) (now (tallies .entry)) (getD (now (ids .entry)) i 0))
+        (elem (getD (now (ids .entry)) i 0) (before i (now (ids .entry))))
+        (eqb slab noClassKind)
+        (badIn (caps .slots) (now («slot_marks» .entry)) (now (owners .entry)) (now (tallies .entry))
+        (getD (now (ids .entry)) i 0) location) ⌝ }
 {
     let id = ids[i];
     if !held_id(caps.ids, id_marks, tallies, id) {
@@ -165,10 +179,16 @@ pub fn check(
     ids: &[u64],
     slabs: &[usize],
 ) -> Judged
-    ensures { λ r. ⌜ judgedVerdict r ≡ checkIn (memoryOf (caps .ids) (caps .slots) (now («id_marks» .entry)) (now (locations .entry)) (now («slot_marks» .entry)) (now (owners .entry)) [] (now (tallies .entry))) [] 0 (now (ids .entry)) (now (slabs .entry)) ⌝ }
+    ensures { λ r. ⌜ judgedVerdict r
+        ≡ checkIn (lentBy placeTables (caps .ids) (caps .slots)
+        (now («id_marks» .entry))
+        (now (locations .entry))
+        (now («slot_marks» .entry))
+        (now (owners .entry))
+        (now (tallies .entry))) [] 0 (now (ids .entry)) (now (slabs .entry)) ⌝ }
 {
     let found = locations_of(locations, ids);
-    let mut seen = [false; 4096];
+    let mut seen = [false; BUCKETS as usize];
     let mut i: usize = 0;
     while i < ids.len() {
         if slabs.len() <= i {

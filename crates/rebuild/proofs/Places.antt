@@ -6,7 +6,7 @@ use Prim.Native.Nat.{ℕ, _+_, _*_, _/_, _%_, _≤_, _<_, _^_, pred}
 use native.Mathlib.Nat.{mul-le-mul-right}
 use native.Mathlib.Omega.{arith}
 use lib.ListN.{length, length-set}
-use Rattle.address.specs.Address.{badSlots, unit, isLocation, unpacked}
+use Rattle.address.specs.Address.{unit, isLocation, unpacked, slabs}
 use Rattle.address.specs.declared.SlabAddress.{SlabAddress}
 use Rattle.address.specs.declared.Unpacked.the-variants as U
 use Rattle.address.proofs.Laws.{slots-range, unpacked-at}
@@ -20,7 +20,7 @@ pub record Place (slots location : ℕ) (a : SlabAddress) : Type 0 where
   pub top : a .slab + 1 ≡ location / unit
   pub entry : a .slab * slots + a .slot ≡ slotPlace slots location
   pub fits : a .slab * slots + a .slot < 2 ^ 32
-  pub few : a .slab < 78
+  pub few : a .slab < slabs
 
 pub place : (slots l : ℕ) (a : SlabAddress) → unpacked slots l ≡ U.At a → Place slots l a
 place slots l a e =
@@ -29,7 +29,7 @@ place slots l a e =
     let w = c .whole in
     let b = c .slab-lt in
     let t = c .slot-lt in
-    let h : a .slab ≤ 78 = omega arith in
+    let h : a .slab ≤ slabs = omega arith in
     let k = mul-le-mul-right slots h in
     let s : a .slab ≡ pred (l / unit) = omega arith in
     let n : a .slot ≡ l % unit = omega arith in

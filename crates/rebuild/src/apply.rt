@@ -46,7 +46,8 @@ fn hold_slot(
     requires { ⌜ badSlots slots ≡ false ⌝ }
     ensures { λ _. ⌜ (now («slot_marks» .exit) ≡ write slots location 1 (now («slot_marks» .entry)))
         × (now (owners .exit) ≡ write slots location id (now (owners .entry)))
-        × (now (tallies .exit) ≡ cond (isLocation slots location) (putWord (now (tallies .entry)) usedWords (location / unit) 1) (now (tallies .entry))) ⌝ }
+        × (now (tallies .exit)
+        ≡ cond (isLocation slots location) (putWord (now (tallies .entry)) usedWords (location / unit) 1) (now (tallies .entry))) ⌝ }
 {
     let Unpacked::At(address) = SlabAddress::unpack(slots, location) else {
         return;
@@ -69,9 +70,11 @@ fn hold_slots(
     row_locations: &[u64],
 )
     requires { ⌜ (badSlots slots ≡ false) × (length (now «row_locations») ≡ length (now ids)) ⌝ }
-    ensures { λ _. ⌜ (now («slot_marks» .exit) ≡ writeAll slots (locationsOf (rowsOf (now (ids .entry)) (now («row_locations» .entry)))) 1 (now («slot_marks» .entry)))
+    ensures { λ _. ⌜ (now («slot_marks» .exit)
+        ≡ writeAll slots (locationsOf (rowsOf (now (ids .entry)) (now («row_locations» .entry)))) 1 (now («slot_marks» .entry)))
         × (now (owners .exit) ≡ ownedBy slots (rowsOf (now (ids .entry)) (now («row_locations» .entry))) (now (owners .entry)))
-        × (now (tallies .exit) ≡ useSlots slots (now (tallies .entry)) (locationsOf (rowsOf (now (ids .entry)) (now («row_locations» .entry))))) ⌝ }
+        × (now (tallies .exit)
+        ≡ useSlots slots (now (tallies .entry)) (locationsOf (rowsOf (now (ids .entry)) (now («row_locations» .entry))))) ⌝ }
 {
     let mut i: usize = 0;
     while i < ids.len() {
@@ -93,12 +96,19 @@ pub(crate) fn write(
     row_locations: &[u64],
 )
     requires { ⌜ (badSlots slots ≡ false) × (length (now «row_locations») ≡ length (now ids)) ⌝ }
-    ensures { λ _. ⌜ (now («id_marks» .exit) ≡ heldBy (rowsOf (now (ids .entry)) (now («row_locations» .entry))) (replicate (length (now («id_marks» .entry))) 0))
-        × (now (locations .exit) ≡ locatedBy (rowsOf (now (ids .entry)) (now («row_locations» .entry))) (replicate (length (now (locations .entry))) 0))
-        × (now («slot_marks» .exit) ≡ writeAll slots (locationsOf (rowsOf (now (ids .entry)) (now («row_locations» .entry)))) 1 (replicate (length (now («slot_marks» .entry))) 0))
-        × (now (owners .exit) ≡ ownedBy slots (rowsOf (now (ids .entry)) (now («row_locations» .entry))) (replicate (length (now (owners .entry))) 0))
+    ensures { λ _. ⌜ (now («id_marks» .exit)
+        ≡ heldBy (rowsOf (now (ids .entry)) (now («row_locations» .entry))) (replicate (length (now («id_marks» .entry))) 0))
+        × (now (locations .exit)
+        ≡ locatedBy (rowsOf (now (ids .entry)) (now («row_locations» .entry))) (replicate (length (now (locations .entry))) 0))
+        × (now («slot_marks» .exit)
+        ≡ writeAll slots (locationsOf (rowsOf (now (ids .entry)) (now («row_locations» .entry)))) 1
+        (replicate (length (now («slot_marks» .entry))) 0))
+        × (now (owners .exit)
+        ≡ ownedBy slots (rowsOf (now (ids .entry)) (now («row_locations» .entry))) (replicate (length (now (owners .entry))) 0))
         × (now (batch .exit) ≡ replicate (length (now (batch .entry))) 0)
-        × (now (tallies .exit) ≡ useSlots slots (putWord (replicate (length (now (tallies .entry))) 0) usedWords 0 (min 1 (length (now (ids .entry))))) (locationsOf (rowsOf (now (ids .entry)) (now («row_locations» .entry))))) ⌝ }
+        × (now (tallies .exit)
+        ≡ useSlots slots (putWord (replicate (length (now (tallies .entry))) 0) usedWords 0 (min 1 (length (now (ids .entry)))))
+        (locationsOf (rowsOf (now (ids .entry)) (now («row_locations» .entry))))) ⌝ }
 {
     clear::all(id_marks, locations, slot_marks, owners, batch, tallies);
     tables::put(tallies, tables::USED, 0, any(ids.len()));

@@ -3,27 +3,20 @@
 //
 //     // ids, row_locations: the rows, in any order
 //     match rebuild::rebuild(caps, &mut id_marks, &mut locations, &mut slot_marks, &mut owners, &mut batch, &mut tallies, &ids, &row_locations) {
-//         Rebuilt::Done => ..,
-//         Rebuilt::Refused(refusal) => ..,  // 1; by its row 8, 9, 3, 16
+//         Finished::Done => ..,
+//         Finished::Refused(refusal) => ..,  // 1; by its row 8, 9, 3, 16
 //     }
 //
 // Every word of the six tables is written, or none where the call is refused.
 ghost use mathlib.Core.Path.{_≡_};
-ghost use Rattle.model.specs.Store.{fresh, rebuild};
-ghost use Rattle.model.specs.Step.{answer};
-ghost use Rattle.model.specs.Memory.{read, memoryOf};
-ghost use Rattle.model.specs.MemoryAfter.{memoryAfter};
-ghost use Rattle.rebuild.specs.Answers.{answerOf};
+ghost use Rattle.model.specs.Store.{fresh, rebuild, finishedAnswer};
+ghost use Rattle.model.specs.Lent.{lentTo, answered, leaves};
+use refusal::Finished;
 use refusal::Refusal;
 use tables::Capacities;
 
 mod apply;
 mod clear;
-
-pub enum Rebuilt {
-    Done,
-    Refused(Refusal),
-}
 
 // An empty store.
 pub fn fresh(
@@ -34,11 +27,29 @@ pub fn fresh(
     owners: &mut [u64],
     batch: &mut [u64],
     tallies: &mut [u64],
-) -> Rebuilt
-    ensures { λ r. ⌜ (answerOf r
-        ≡ answer (read (memoryOf (caps .ids) (caps .slots) (now («id_marks» .entry)) (now (locations .entry)) (now («slot_marks» .entry)) (now (owners .entry)) (now (batch .entry)) (now (tallies .entry)))) fresh)
-        × (memoryOf (caps .ids) (caps .slots) (now («id_marks» .exit)) (now (locations .exit)) (now («slot_marks» .exit)) (now (owners .exit)) (now (batch .exit)) (now (tallies .exit))
-        ≡ memoryAfter (memoryOf (caps .ids) (caps .slots) (now («id_marks» .entry)) (now (locations .entry)) (now («slot_marks» .entry)) (now (owners .entry)) (now (batch .entry)) (now (tallies .entry))) fresh) ⌝ }
+) -> Finished
+    ensures { λ r. ⌜ (finishedAnswer r
+        ≡ answered fresh (caps .ids) (caps .slots)
+        (now («id_marks» .entry))
+        (now (locations .entry))
+        (now («slot_marks» .entry))
+        (now (owners .entry))
+        (now (batch .entry))
+        (now (tallies .entry)))
+        × (lentTo fresh (caps .ids) (caps .slots)
+        (now («id_marks» .exit))
+        (now (locations .exit))
+        (now («slot_marks» .exit))
+        (now (owners .exit))
+        (now (batch .exit))
+        (now (tallies .exit))
+        ≡ leaves fresh (caps .ids) (caps .slots)
+        (now («id_marks» .entry))
+        (now (locations .entry))
+        (now («slot_marks» .entry))
+        (now (owners .entry))
+        (now (batch .entry))
+        (now (tallies .entry))) ⌝ }
 {
     if !tables::all_fit(
         caps,
@@ -49,10 +60,10 @@ pub fn fresh(
         batch.len(),
         tallies.len(),
     ) {
-        return Rebuilt::Refused(Refusal::of(Refusal::WRONG_SHAPE));
+        return Finished::Refused(Refusal::of(Refusal::WRONG_SHAPE));
     }
     clear::all(id_marks, locations, slot_marks, owners, batch, tallies);
-    Rebuilt::Done
+    Finished::Done
 }
 
 // A store that holds the rows' ids and slots, and nothing else.
@@ -66,11 +77,32 @@ pub fn rebuild(
     tallies: &mut [u64],
     ids: &[u64],
     row_locations: &[u64],
-) -> Rebuilt
-    ensures { λ r. ⌜ (answerOf r
-        ≡ answer (read (memoryOf (caps .ids) (caps .slots) (now («id_marks» .entry)) (now (locations .entry)) (now («slot_marks» .entry)) (now (owners .entry)) (now (batch .entry)) (now (tallies .entry)))) (rebuild (now (ids .entry)) (now («row_locations» .entry))))
-        × (memoryOf (caps .ids) (caps .slots) (now («id_marks» .exit)) (now (locations .exit)) (now («slot_marks» .exit)) (now (owners .exit)) (now (batch .exit)) (now (tallies .exit))
-        ≡ memoryAfter (memoryOf (caps .ids) (caps .slots) (now («id_marks» .entry)) (now (locations .entry)) (now («slot_marks» .entry)) (now (owners .entry)) (now (batch .entry)) (now (tallies .entry))) (rebuild (now (ids .entry)) (now («row_locations» .entry)))) ⌝ }
+) -> Finished
+    ensures { λ r. ⌜ (finishedAnswer r
+        ≡ answered (rebuild (record { ids = now (ids .entry); locations = now («row_locations» .entry) }))
+        (caps .ids) (caps .slots)
+        (now («id_marks» .entry))
+        (now (locations .entry))
+        (now («slot_marks» .entry))
+        (now (owners .entry))
+        (now (batch .entry))
+        (now (tallies .entry)))
+        × (lentTo (rebuild (record { ids = now (ids .entry); locations = now («row_locations» .entry) }))
+        (caps .ids) (caps .slots)
+        (now («id_marks» .exit))
+        (now (locations .exit))
+        (now («slot_marks» .exit))
+        (now (owners .exit))
+        (now (batch .exit))
+        (now (tallies .exit))
+        ≡ leaves (rebuild (record { ids = now (ids .entry); locations = now («row_locations» .entry) }))
+        (caps .ids) (caps .slots)
+        (now («id_marks» .entry))
+        (now (locations .entry))
+        (now («slot_marks» .entry))
+        (now (owners .entry))
+        (now (batch .entry))
+        (now (tallies .entry))) ⌝ }
 {
     let fit = tables::all_fit(
         caps,
@@ -82,11 +114,11 @@ pub fn rebuild(
         tallies.len(),
     );
     if !tables::both(fit, row_locations.len() == ids.len()) {
-        return Rebuilt::Refused(Refusal::of(Refusal::WRONG_SHAPE));
+        return Finished::Refused(Refusal::of(Refusal::WRONG_SHAPE));
     }
     let wrong = rebuild_rows::first_refused(caps, ids, row_locations);
     if wrong.number != 0 {
-        return Rebuilt::Refused(Refusal::at(wrong.number, wrong.row));
+        return Finished::Refused(Refusal::at(wrong.number, wrong.row));
     }
     let slots = caps.slots;
     apply::write(
@@ -100,5 +132,5 @@ pub fn rebuild(
         ids,
         row_locations,
     );
-    Rebuilt::Done
+    Finished::Done
 }

@@ -12,14 +12,16 @@ use lib.ListN.{length, getD, set, take, replicate, length-replicate, length-set,
 use lib.Seq.{getD-set-same, getD-set-other}
 use borrow.Author.Tests.{le-ltb, lt-ltb, eq-eqb, ne-eqb, eqb-true, ltb-true, not-true}
 use Rattle.refusal.specs.Refusals.{wrongShape, outOfRange, noSuchId, repeatedId, repeatedLocation}
-use Rattle.refusal.proofs.Tests.{and-true}
+use Rattle.refusal.proofs.Tests.{and-true, all}
+use Rattle.list_parts.specs.Lists.{elem}
+use Rattle.list_parts.proofs.Lists.{elem-head}
 use Rattle.address.specs.Address.{badSlots, isLocation}
 use Rattle.address.proofs.Laws.{slots-range}
 use Rattle.model.specs.Store.{Store, Row}
 use Rattle.model.specs.Verdict.{Verdict, test, _⨾_}
-use Rattle.model.specs.Tables.{elem, inIds, locationsOf}
+use Rattle.model.specs.Tables.{inIds, locationsOf}
 use Rattle.model.specs.Rebuild.{rows, rowsOf}
-use Rattle.model.proofs.Tables.{zeros, elem-head, all}
+use Rattle.model.proofs.Lists.{zeros}
 use Rattle.rebuild_rows.specs.Checks.{groups, wrong, wrongIn, firstWrong, decided, decidedBy, checked, refusedRow, repeatsFrom, wrongVerdict}
 use Rattle.rebuild_rows.specs.declared.Wrong.{Wrong}
 use Rattle.rebuild_rows.proofs.Groups.{firstRepeat, places, repeats-are}

@@ -13,10 +13,12 @@ use lib.Dec.{eqb}
 use lib.ListN.{length, getD, take, replicate, length-replicate}
 use lib.Seq.{getD-set-same, getD-set-other}
 use borrow.Author.Tests.{eqb-true, eq-eqb}
-use Rattle.refusal.proofs.Tests.{and-true, clash}
+use Rattle.refusal.proofs.Tests.{and-true, clash, contradiction}
+use Rattle.list_parts.specs.Lists.{elem}
+use Rattle.list_parts.proofs.Lists.{elem-head, elem-tail, elem-cases}
 use Rattle.address.specs.Address.{unit, isLocation}
-use Rattle.model.specs.Tables.{elem}
-use Rattle.model.proofs.Tables.{zeros, elem-head, elem-tail, elem-cases, isLocation-says, contradiction, set-cases}
+use Rattle.model.proofs.Lists.{zeros, set-cases}
+use Rattle.model.proofs.Locations.{isLocation-says}
 use Rattle.rebuild_rows.proofs.Bits.{hasBit-zero, withBit-same, withBit-other}
 use Rattle.rebuild_rows.proofs.Turns.{length-markedBy}
 use Rattle.rebuild_rows.specs.Checks.{groups, groupOf, bitOf, hasBit, withBit, isMarked, marked, repeatsAt, markedBy, repeatIn, repeatsFrom}

@@ -82,7 +82,8 @@ fn wrong_in(caps: Capacities, seen: &[u8], id: u64, location: u64) -> u8
 
 fn first_wrong_by(caps: Capacities, seen: &mut [u8], ids: &[u64], row_locations: &[u64]) -> Wrong
     requires { ⌜ (badSlots (caps .slots) ≡ false) × (length (now «row_locations») ≡ length (now ids)) ⌝ }
-    ensures { λ r. ⌜ r ≡ firstWrong (caps .ids) (caps .slots) (now (seen .entry)) 0 (rowsOf (now (ids .entry)) (now («row_locations» .entry))) ⌝ }
+    ensures { λ r. ⌜ r
+        ≡ firstWrong (caps .ids) (caps .slots) (now (seen .entry)) 0 (rowsOf (now (ids .entry)) (now («row_locations» .entry))) ⌝ }
 {
     let mut i: usize = 0;
     while i < ids.len() {
@@ -98,7 +99,8 @@ fn first_wrong_by(caps: Capacities, seen: &mut [u8], ids: &[u64], row_locations:
 
 fn first_wrong(caps: Capacities, ids: &[u64], row_locations: &[u64]) -> Wrong
     requires { ⌜ (badSlots (caps .slots) ≡ false) × (length (now «row_locations») ≡ length (now ids)) ⌝ }
-    ensures { λ r. ⌜ r ≡ firstWrong (caps .ids) (caps .slots) (replicate 65536 0) 0 (rowsOf (now (ids .entry)) (now («row_locations» .entry))) ⌝ }
+    ensures { λ r. ⌜ r
+        ≡ firstWrong (caps .ids) (caps .slots) (replicate 65536 0) 0 (rowsOf (now (ids .entry)) (now («row_locations» .entry))) ⌝ }
 {
     let mut seen = [0u8; 65536];
     first_wrong_by(caps, &mut seen, ids, row_locations)
@@ -120,7 +122,8 @@ fn with_bit(mark: u8, bit: u64) -> u8
 
 // Whether a location of this group has the bit of its slab in the mark of its slot; it has it then.
 fn repeats(marks: &mut [u8], group: u64, location: u64) -> bool
-    ensures { λ r. ⌜ (r ≡ repeatsAt group (now (marks .entry)) location) × (now (marks .exit) ≡ markedBy group (now (marks .entry)) location) ⌝ }
+    ensures { λ r. ⌜ (r ≡ repeatsAt group (now (marks .entry)) location)
+        × (now (marks .exit) ≡ markedBy group (now (marks .entry)) location) ⌝ }
 {
     let top = location / UNIT;
     if top / GROUP != group {

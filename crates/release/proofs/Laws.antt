@@ -1,6 +1,6 @@
 -- Laws of release: its tests on lengths and words, one allocator by its waiting word, and one turn of the loop over the slabs. Assumes nothing.
 use mathlib.Core.Path.{_≡_, refl, sym, ap, _∙_}
-use mathlib.Core.Bool.{Bool, not}
+use mathlib.Core.Bool.{not}
 use mathlib.Core.List.{List, map}
 use Prim.Native.Nat.{ℕ, zero, suc, _+_, _-_, _*_, _<_, _≤_}
 use native.Mathlib.Nat.{mul-le-mul-right, suc-mul}
@@ -8,45 +8,35 @@ use native.Mathlib.Numerals.{add-one}
 use native.Mathlib.Omega.{arith}
 use lib.Dec.{ltb}
 use lib.ListN.{length, getD, take, drop}
-use borrow.Author.Tests.{eqb-true}
 use borrow.Rule.Slice.PartMut.{putMid}
+use Rattle.refusal.specs.Outcomes.{granted}
 use Rattle.refusal.specs.Refusals.{wrongShape, batchOpen}
-use Rattle.refusal.proofs.Tests.{and-true}
+use Rattle.list_parts.specs.Parts.{part}
 use Rattle.address.specs.Address.{slabs}
 use Rattle.marks.specs.Marks.{isPending, countIf, letGo}
 use Rattle.id_allocator.specs.Counted.{hinted}
 use Rattle.model.specs.Store.{done, release}
-use Rattle.model.specs.Tables.{part, bump, idMarksFit, slotMarksFit, batchFits, talliesFit}
-use Rattle.model.specs.Step.{refusal, grant, answer, answerBy}
+use Rattle.model.specs.Tables.{bump}
+use Rattle.model.specs.Step.{refusalOf, refusal, grant, answer, answerBy}
 use Rattle.model.specs.Memory.{Memory, read, getWord, wordAt, putWord, freedWords, hintWords, waitingWords}
 use Rattle.model.specs.MemoryAfter.{Slots, withIds, withSlots, releasedMarks, releasedWords, releaseSlabs, releaseIds, memoryEffect, memoryAfter}
 use Rattle.model.specs.Verdict.{_⨾_, test}
-use Rattle.model.proofs.Granted.{shape-ok}
-use Rattle.model.proofs.Verdicts.{first-ok}
-use Rattle.model.proofs.Shapes.{slotMarksFit-read}
-use Rattle.tables.specs.Shapes.{releaseFits}
-use Rattle.tables.proofs.Lengths.{releaseFits-read}
+use Rattle.model.specs.Lending.{markTables}
+use Rattle.model.specs.Lent.{fits}
+use Rattle.model.proofs.Granted.{granted-fits}
+use Rattle.model.proofs.Sizes.{shape-read, fits-slot-marks}
 use Rattle.model.proofs.Answered.{granted-after}
 
 -- ---- the tests
 module _ (m : Memory) where
-  abbrev pub fits : Bool
-  fits = releaseFits (m .ids) (m .slots) (length (m .idMarks)) (length (m .slotMarks)) (length (m .batch)) (length (m .tallies))
-
-  pub release-answer : answer (read m) release ≡ answerBy (test (not fits) wrongShape 0 ⨾ test (ltb 0 (getD (m .batch) 0 0)) batchOpen 0) done
-  unfolding answer refusal grant read
-  release-answer = λ i. answerBy (test (not (releaseFits-read m i)) wrongShape 0 ⨾ test (ltb 0 (getD (m .batch) 0 0)) batchOpen 0) done
+  pub release-answer : answer (read m) release
+      ≡ answerBy (test (not (fits markTables m)) wrongShape 0 ⨾ test (ltb 0 (getD (m .batch) 0 0)) batchOpen 0) done
+  unfolding answer refusal refusalOf grant read
+  release-answer = λ i. answerBy (shape-read release m i ⨾ test (ltb 0 (getD (m .batch) 0 0)) batchOpen 0) done
 
   -- what a granted release has found
-  pub release-length : done ≡ answer (read m) release → length (m .slotMarks) ≡ slabs * m .slots
-  unfolding refusal
-  release-length e =
-      let q = granted-after m release done e refl in
-      let s = shape-ok (read m) _ (first-ok _ _ (q .fine)) in
-      let t = and-true _ (talliesFit (read m)) (s .1) in
-      let b = and-true _ (batchFits (read m)) (t .0) in
-      let k = and-true (idMarksFit (read m)) (slotMarksFit (read m)) (b .0) in
-      eqb-true _ _ (sym (slotMarksFit-read m) ∙ k .1)
+  pub release-length : granted done ≡ answer (read m) release → length (m .slotMarks) ≡ slabs * m .slots
+  release-length e = fits-slot-marks markTables m (granted-fits m release (granted-after m release (granted done) e refl .fine))
 
 -- ---- one allocator
 module _ (g : List ℕ) (a w : ℕ) (ms : List ℕ) where
@@ -76,7 +66,7 @@ released-words g counted unhinted after a w hint freed ms h p f c u e =
 pub start-next : (cap k start : ℕ) → start ≡ k * cap → start + cap ≡ (k + 1) * cap
 start-next cap k start e = rw (add-one k) (omega (arith, e, suc-mul k cap))
 
-pub start-within : (cap k start : ℕ) → start ≡ k * cap → k < 78 → start + cap ≤ 78 * cap
+pub start-within : (cap k start : ℕ) → start ≡ k * cap → k < slabs → start + cap ≤ slabs * cap
 start-within cap k start e h = omega (arith, mul-le-mul-right cap h, suc-mul k cap)
 
 pub release-end : (cap n k : ℕ) (s : Slots) → n ≡ 0 → s ≡ releaseSlabs cap n k s
@@ -84,7 +74,7 @@ unfolding releaseSlabs
 release-end cap n k s e = ap (λ x. releaseSlabs cap x k s) (sym e)
 
 -- one slab passed: what is left to do is the same
-pub release-turn : (cap k start : ℕ) (ms g ys g′ : List ℕ) → k < 78 → start ≡ k * cap
+pub release-turn : (cap k start : ℕ) (ms g ys g′ : List ℕ) → k < slabs → start ≡ k * cap
     → ys ≡ releasedMarks (getWord g hintWords (k + 1)) (getWord g waitingWords (k + 1)) (take (start + cap - start) (drop start ms))
     → g′ ≡ releasedWords g (k + 1) (getWord g waitingWords (k + 1)) (take (start + cap - start) (drop start ms))
     → releaseSlabs cap (slabs - (k + 1)) (k + 1) (record { marks = putMid start (start + cap - start) ms ys; words = g′ })
@@ -102,7 +92,7 @@ release-turn cap k start ms g ys g′ h s y w =
     ∙ ap (λ x. releaseSlabs cap x k old) (sym e)
 
 -- ---- the memory after a release
-pub release-after : (m : Memory) (ids g₁ : List ℕ) (s : Slots) → done ≡ answer (read m) release
+pub release-after : (m : Memory) (ids g₁ : List ℕ) (s : Slots) → granted done ≡ answer (read m) release
     → ids ≡ releasedMarks (getWord (m .tallies) hintWords 0) (getWord (m .tallies) waitingWords 0) (m .idMarks)
     → g₁ ≡ releasedWords (m .tallies) 0 (getWord (m .tallies) waitingWords 0) (m .idMarks)
     → s ≡ releaseSlabs (m .slots) slabs 0 (record { marks = m .slotMarks; words = g₁ })
@@ -111,4 +101,4 @@ unfolding memoryEffect
 release-after m ids g₁ s e a b c =
     (λ i. withSlots (withIds m (a i) (b i)) (c i))
     ∙ (λ i. withSlots (releaseIds m) (releaseSlabs (m .slots) slabs 0 (record { marks = m .slotMarks; words = b i })))
-    ∙ sym (granted-after m release done e refl .after)
+    ∙ sym (granted-after m release (granted done) e refl .after)

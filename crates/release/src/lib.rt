@@ -1,8 +1,8 @@
 // Release: every id and every slot that is pending becomes free (document 01, "Ids, slots, pending").
 //
 //     match release::release(caps, &mut id_marks, &mut slot_marks, &batch, &mut tallies) {
-//         Released::Done => ..,
-//         Released::Refused(refusal) => ..,  // 1, a wrong length or capacity; 11, a batch is open
+//         Finished::Done => ..,
+//         Finished::Refused(refusal) => ..,  // 1, a wrong length or capacity; 11, a batch is open
 //     }
 //
 // An allocator whose waiting word is 0 has nothing pending and is passed over, so that the marks of a slab are only looked at
@@ -11,20 +11,15 @@ ghost use mathlib.Core.Path.{_≡_};
 ghost use Prim.Native.Nat.{_*_};
 ghost use lib.ListN.{length};
 ghost use Rattle.address.specs.Address.{slabs};
-ghost use Rattle.model.specs.Store.{release};
-ghost use Rattle.model.specs.Step.{answer};
-ghost use Rattle.model.specs.Memory.{read, getWord, hintWords, waitingWords};
-ghost use Rattle.model.specs.MemoryAfter.{Slots, releasedMarks, releasedWords, releaseSlabs, memoryAfter};
-ghost use Rattle.release.specs.Releases.{releaseMemory, releasedAnswer};
+ghost use Rattle.model.specs.Store.{release, finishedAnswer};
+ghost use Rattle.model.specs.Memory.{getWord, hintWords, waitingWords};
+ghost use Rattle.model.specs.Lent.{lentTo, answered, leaves};
+ghost use Rattle.model.specs.MemoryAfter.{Slots, releasedMarks, releasedWords, releaseSlabs};
+use refusal::Finished;
 use refusal::Refusal;
 use tables::Capacities;
 
-pub enum Released {
-    Done,
-    Refused(Refusal),
-}
-
-// The ids' allocator is the first of the 79; slab k's is k + 1.
+// The ids' allocator is the first of tables::ALLOCATORS; slab k's is k + 1.
 const IDS: usize = 0;
 
 // Whether a release is granted, by the tables' lengths and the batch.
@@ -34,9 +29,13 @@ fn granted(
     slot_marks: &[u8],
     batch: &[u64],
     tallies: &[u64],
-) -> Released
-    ensures { λ r. ⌜ releasedAnswer r
-        ≡ answer (read (releaseMemory caps (now («id_marks» .entry)) (now («slot_marks» .entry)) (now (batch .entry)) (now (tallies .entry)))) release ⌝ }
+) -> Finished
+    ensures { λ r. ⌜ finishedAnswer r
+        ≡ answered release (caps .ids) (caps .slots)
+        (now («id_marks» .entry))
+        (now («slot_marks» .entry))
+        (now (batch .entry))
+        (now (tallies .entry)) ⌝ }
 {
     if !tables::release_fits(
         caps,
@@ -45,18 +44,25 @@ fn granted(
         batch.len(),
         tallies.len(),
     ) {
-        return Released::Refused(Refusal::of(Refusal::WRONG_SHAPE));
+        return Finished::Refused(Refusal::of(Refusal::WRONG_SHAPE));
     }
     if tables::get(batch, 0, 0) != 0 {
-        return Released::Refused(Refusal::of(Refusal::BATCH_OPEN));
+        return Finished::Refused(Refusal::of(Refusal::BATCH_OPEN));
     }
-    Released::Done
+    Finished::Done
 }
 
 // What is pending in one allocator becomes free, and is counted.
 fn release_allocator(marks: &mut [u8], tallies: &mut [u64], allocator: usize)
-    ensures { λ _. ⌜ (now (marks .exit) ≡ releasedMarks (getWord (now (tallies .entry)) hintWords allocator) (getWord (now (tallies .entry)) waitingWords allocator) (now (marks .entry)))
-        × (now (tallies .exit) ≡ releasedWords (now (tallies .entry)) allocator (getWord (now (tallies .entry)) waitingWords allocator) (now (marks .entry))) ⌝ }
+    ensures { λ _. ⌜ (now (marks .exit)
+        ≡ releasedMarks
+        (getWord (now (tallies .entry)) hintWords allocator)
+        (getWord (now (tallies .entry)) waitingWords allocator)
+        (now (marks .entry)))
+        × (now (tallies .exit)
+        ≡ releasedWords (now (tallies .entry)) allocator
+        (getWord (now (tallies .entry)) waitingWords allocator)
+        (now (marks .entry))) ⌝ }
 {
     if tables::get(tallies, tables::WAITING, allocator) == 0 {
         return;
@@ -91,18 +97,30 @@ pub fn release(
     slot_marks: &mut [u8],
     batch: &[u64],
     tallies: &mut [u64],
-) -> Released
-    ensures { λ r. ⌜ releasedAnswer r
-        ≡ answer (read (releaseMemory caps (now («id_marks» .entry)) (now («slot_marks» .entry)) (now (batch .entry)) (now (tallies .entry)))) release ⌝ }
-    ensures { λ _. ⌜ releaseMemory caps (now («id_marks» .exit)) (now («slot_marks» .exit)) (now (batch .entry)) (now (tallies .exit))
-        ≡ memoryAfter (releaseMemory caps (now («id_marks» .entry)) (now («slot_marks» .entry)) (now (batch .entry)) (now (tallies .entry))) release ⌝ }
+) -> Finished
+    ensures { λ r. ⌜ finishedAnswer r
+        ≡ answered release (caps .ids) (caps .slots)
+        (now («id_marks» .entry))
+        (now («slot_marks» .entry))
+        (now (batch .entry))
+        (now (tallies .entry)) ⌝ }
+    ensures { λ _. ⌜ (lentTo release (caps .ids) (caps .slots)
+        (now («id_marks» .exit))
+        (now («slot_marks» .exit))
+        (now (batch .entry))
+        (now (tallies .exit)))
+        ≡ leaves release (caps .ids) (caps .slots)
+        (now («id_marks» .entry))
+        (now («slot_marks» .entry))
+        (now (batch .entry))
+        (now (tallies .entry)) ⌝ }
 {
     match granted(caps, id_marks, slot_marks, batch, tallies) {
-        Released::Done => {
+        Finished::Done => {
             release_allocator(id_marks, tallies, IDS);
             release_slabs(caps.slots, slot_marks, tallies);
-            Released::Done
+            Finished::Done
         }
-        Released::Refused(refusal) => Released::Refused(refusal),
+        Finished::Refused(refusal) => Finished::Refused(refusal),
     }
 }

@@ -1,30 +1,32 @@
--- Laws of capacities, lengths and words. Assumes nothing.
-use mathlib.Core.Bool.{true, not}
-use mathlib.Core.Path.{_≡_, refl}
+-- Laws of tests of lengths, and of words. Assumes nothing.
+use mathlib.Core.Bool.{Bool, true, false, _&&_}
+use mathlib.Core.Path.{_≡_, refl, ap, _∙_}
 use mathlib.Core.List.{List}
-use Prim.Native.Nat.{ℕ, zero, suc, _+_, _%_, _^_, _≤_}
-use lib.Dec.{ltb}
+use Prim.Native.Nat.{ℕ, zero, suc, _+_, _*_, _%_, _^_}
+use lib.Dec.{eqb}
 use lib.ListN.{getD, set}
-use borrow.Author.Tests.{ltb-false, not-true}
-use Rattle.refusal.proofs.Tests.{and-true, or-false}
-use Rattle.address.specs.Address.{badSlots}
-use Rattle.address.proofs.Laws.{slots-range}
-use Rattle.model.specs.Tables.{capacities, badIds, bump}
+use Rattle.address.specs.Address.{slabs}
+use Rattle.model.specs.Tables.{bump, capacities}
+use Rattle.model.specs.Lending.{Lending, ifLent}
+use Rattle.model.specs.Memory.{batchWords, tallyWords}
+use Rattle.model.specs.Lent.{lengthsFit}
 
--- ---- capacities
-pub record Ranges (ids slots : ℕ) : Type 0 where
-  pub ids-from : 2 ≤ ids
-  pub ids-to : ids ≤ 65536
-  pub slots-from : 1 ≤ slots
-  pub slots-to : slots ≤ 65536
+-- ---- a test that asks for good capacities too
+pub under : (n m : ℕ) (t x : Bool) → t ≡ (capacities n m && x) → capacities n m ≡ true → t ≡ x
+under n m t x e h = e ∙ ap (λ k. k && x) h
 
-pub capacities-range : (ids slots : ℕ) → capacities ids slots ≡ true → Ranges ids slots
-unfolding badIds
-capacities-range ids slots e =
-    let b = and-true (not (badIds ids)) (not (badSlots slots)) e in
-    let i = or-false (ltb ids 2) (ltb 65536 ids) (not-true _ (b .0)) in
-    let s = slots-range slots (not-true _ (b .1)) in
-    record { ids-from = ltb-false _ _ (i .0); ids-to = ltb-false _ _ (i .1); slots-from = s .0; slots-to = s .1 }
+-- ---- a test for each table, asked of good capacities: true for one that is not lent
+pub fit-by : (l : Lending) (n m im lo sm ow b g : ℕ) {i o s w k y : Bool}
+    → (capacities n m ≡ true → i ≡ ifLent (l .idMarks) (eqb im n)) → (capacities n m ≡ true → o ≡ ifLent (l .locations) (eqb lo n))
+    → (capacities n m ≡ true → s ≡ ifLent (l .slotMarks) (eqb sm (slabs * m))) → (capacities n m ≡ true → w ≡ ifLent (l .owners) (eqb ow (slabs * m)))
+    → (capacities n m ≡ true → k ≡ ifLent (l .batch) (eqb b batchWords)) → (capacities n m ≡ true → y ≡ ifLent (l .tallies) (eqb g tallyWords))
+    → (capacities n m && (i && o && s && w && k && y)) ≡ lengthsFit l n m im lo sm ow b g
+unfolding lengthsFit
+fit-by l n m im lo sm ow b g i o s w k y = go (capacities n m) (λ h j. i h j && o h j && s h j && w h j && k h j && y h j)
+  where
+    go : (c : Bool) {x z : Bool} → (c ≡ true → x ≡ z) → (c && x) ≡ (c && z)
+    go true f = f refl
+    go false f = refl
 
 -- ---- bump
 pub bump-nonzero : (t : List ℕ) (base at n : ℕ) → (n ≡ 0 → ⊥) → set t (base + at) ((getD t (base + at) 0 + n) % 2 ^ 64) ≡ bump t (base + at) n

@@ -14,14 +14,16 @@ use types.Run.{OneOf}
 use denote.Enum.Declared.{tagOf}
 use Rattle.refusal.specs.declared.Refusal.{Refusal}
 use Rattle.refusal.proofs.Tests.{by-test}
-use Rattle.address.specs.Address.{slabs, unit, isLocation, badSlots, unpacked}
+use Rattle.list_parts.specs.Parts.{part}
+use Rattle.list_parts.proofs.Parts.{part-at}
+use Rattle.address.specs.Address.{unit, isLocation, badSlots, unpacked, slabs}
 use Rattle.address.specs.declared.Unpacked.{Unpacked}
 use Rattle.address.specs.declared.Unpacked.the-variants as U
 use Rattle.address.proofs.Unpacked.{the-type}
 use Rattle.address.proofs.Laws.{slots-range}
-use Rattle.model.specs.Tables.{part, heldId, badAt}
+use Rattle.model.specs.Tables.{heldId, badAt}
 use Rattle.model.specs.Memory.{Memory, countedBy, countedSlabs, read}
-use Rattle.model.proofs.Tables.{isLocation-says, part-at}
+use Rattle.model.proofs.Locations.{isLocation-says}
 use Rattle.model.proofs.Slabs.{part-countedSlabs}
 use Rattle.tables.specs.Entries.{heldIn, slabPart, badBy, badIn}
 
@@ -58,7 +60,7 @@ mark-read : (m : Memory) (k j : ℕ) → length (m .slotMarks) ≡ slabs * m .sl
     → getD (countedSlabs (m .slots) (m .tallies) slabs 0 (m .slotMarks)) (k * m .slots + j) 0 ≡ getD (countedBy (m .tallies) (k + 1) (part (m .slots) (m .slotMarks) k)) j 0
 mark-read m k j n hk hj =
     let e : suc (0 + k) ≡ k + 1 = omega arith in
-    sym (part-at (m .slots) (countedSlabs (m .slots) (m .tallies) slabs 0 (m .slotMarks)) k j hj)
+    sym (part-at (m .slots) (countedSlabs (m .slots) (m .tallies) slabs 0 (m .slotMarks)) k j 0 hj)
     ∙ ap (λ (x : List ℕ). getD x j 0) (part-countedSlabs (m .slots) (m .tallies) slabs 0 (m .slotMarks) k n hk)
     ∙ ap (λ (a : ℕ). getD (countedBy (m .tallies) a (part (m .slots) (m .slotMarks) k)) j 0) e
 

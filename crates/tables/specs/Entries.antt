@@ -5,11 +5,11 @@ use mathlib.Core.List.{List, []}
 use Prim.Native.Nat.{ℕ, _+_, _*_}
 use lib.Dec.{ltb, eqb}
 use lib.ListN.{getD}
-use Rattle.address.specs.Address.{slabs, badSlots, unpacked}
+use Rattle.list_parts.specs.Parts.{part}
+use Rattle.address.specs.Address.{badSlots, unpacked, slabs}
 use Rattle.address.specs.declared.Unpacked.{Unpacked}
 use Rattle.address.specs.declared.Unpacked.the-variants as U
 use Rattle.marks.specs.Marks.{isHeld}
-use Rattle.model.specs.Tables.{part}
 use Rattle.model.specs.Memory.{countedBy}
 
 -- a held id above 0

@@ -1,7 +1,7 @@
 // The six tables that a store is lent, and what they say of one id, one slot, one allocator (document 01, "Ids, slots, pending").
 //
 //     let caps = Capacities { ids: 9, slots: 8 };
-//     // id_marks: [u8; 9], locations: [u64; 9], slot_marks: [u8; 78 * 8], owners: [u64; 78 * 8],
+//     // id_marks: [u8; 9], locations: [u64; 9], slot_marks: [u8; tables::SLABS * 8], owners: [u64; tables::SLABS * 8],
 //     // batch: [u64; tables::BATCH_WORDS], tallies: [u64; tables::TALLY_WORDS]
 //     heap::fresh(caps, &mut id_marks, &mut locations, &mut slot_marks, &mut owners, &mut batch, &mut tallies);
 //
@@ -18,8 +18,8 @@ pub use clear::clear_words;
 pub use entries::bad_location;
 pub use entries::held_id;
 pub use entries::slab_marks;
-use refusal::Refusal;
 pub use shapes::all_fit;
+pub use shapes::all_hold;
 pub use shapes::both;
 pub use shapes::defrag_fits;
 pub use shapes::lookup_fits;
@@ -31,36 +31,31 @@ pub use words::add;
 pub use words::get;
 pub use words::put;
 
-// What a test says that only reads: nothing is refused so far, or this is.
-pub enum Judged {
-    Passed,
-    Refused(Refusal),
-}
+pub const SLABS: usize = address::SlabAddress::SLABS;
 
-pub const SLABS: usize = 78;
 // The ids' allocator, then the slabs'.
-pub const ALLOCATORS: usize = 79;
+pub const ALLOCATORS: usize = SLABS + 1;
 
 pub const MOST_UPDATES: usize = 256;
 
-// The batch: the opened word (0: none is open; n + 1: one of n updates is), 256 ids, 256 new locations.
-pub const BATCH_WORDS: usize = 513;
-
+// The batch: the opened word (0: none is open; n + 1: one of n updates is), an id for each update, a new location for each.
 pub const KEPT_IDS: usize = 1;
 
-pub const KEPT_LOCATIONS: usize = 257;
+pub const KEPT_LOCATIONS: usize = KEPT_IDS + MOST_UPDATES;
+
+pub const BATCH_WORDS: usize = KEPT_LOCATIONS + MOST_UPDATES;
 
 // The tallies: a word of each kind for each allocator, then a high mark for each slab.
-pub const TALLY_WORDS: usize = 473;
-
 pub const GRANTED: usize = 0;
 
-pub const FREED: usize = 79;
+pub const FREED: usize = ALLOCATORS;
 
-pub const USED: usize = 158;
+pub const USED: usize = 2 * ALLOCATORS;
 
-pub const HINT: usize = 237;
+pub const HINT: usize = 3 * ALLOCATORS;
 
-pub const WAITING: usize = 316;
+pub const WAITING: usize = 4 * ALLOCATORS;
 
-pub const HIGH: usize = 395;
+pub const HIGH: usize = 5 * ALLOCATORS;
+
+pub const TALLY_WORDS: usize = HIGH + SLABS;

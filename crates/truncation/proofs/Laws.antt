@@ -4,59 +4,55 @@ use mathlib.Core.Path.{_≡_, refl, sym, ap, _∙_}
 use mathlib.Core.Bool.{Bool, true, false, not, cond, _&&_, _||_}
 use mathlib.Core.List.{List}
 use Prim.Native.Nat.{ℕ, zero, suc, _+_, _-_, _*_, _<_, _≤_, max, pred}
-use native.Mathlib.Nat.{mul-le-mul, mul-le-mul-right, suc-mul}
+use native.Mathlib.Nat.{mul-le-mul}
 use native.Mathlib.Numerals.{add-one}
 use native.Mathlib.Omega.{arith}
-use lib.Dec.{leb, ltb, eqb}
+use lib.Dec.{leb, ltb}
 use lib.ListN.{length, getD, take, drop}
 use lib.Seq.{getD-drop}
-use borrow.Author.Tests.{eqb-true, leb-true, leb-false, not-true, not-false, lt-ltb, le-ltb, le-leb, lt-leb}
+use borrow.Author.Tests.{leb-true, leb-false, not-true, not-false, lt-ltb, le-ltb, le-leb, lt-leb}
+use Rattle.refusal.specs.Outcomes.{granted, refused}
 use Rattle.refusal.specs.Refusals.{wrongShape, outOfRange, batchOpen, ratioOutOfRange, nothingToCut}
 use Rattle.refusal.specs.declared.Refusal.{Refusal}
 use Rattle.refusal.proofs.Tests.{and-true, or-false}
+use Rattle.list_parts.specs.Parts.{part}
+use Rattle.list_parts.proofs.Parts.{part-at}
+use Rattle.address.specs.Address.{slabs, mostSlots}
 use Rattle.sizes.specs.Sizes.{sizeOf, slabSizes}
 use Rattle.sizes.proofs.Laws.{allBelow-at}
-use Rattle.address.specs.Address.{slabs}
 use Rattle.marks.specs.Marks.{tip}
 use Rattle.id_allocator.specs.Counted.{hinted}
 use Rattle.marks.proofs.LawsCount.{tip-le}
 use Rattle.id_allocator.proofs.LawsCounted.{counted-tip}
-use Rattle.model.specs.Store.{refused, done, gave, keep, cut, truncation, report, Store}
-use Rattle.model.specs.Tables.{part, capacities, slabTip, allocators}
+use Rattle.model.specs.Store.{keep, cut, done, gave, truncated, truncation, report, Store}
+use Rattle.model.specs.Tables.{slabTip, allocators}
+use Rattle.model.specs.Lending.{slabTables}
+use Rattle.model.specs.Lent.{fits}
+use Rattle.model.specs.Tests.{shape}
 use Rattle.model.specs.Truncation.{isTarget, highMark, fill, cutAt, keeps, newLength, bytesGivenBack}
-use Rattle.model.specs.Step.{refusal, grant, answer, answerBy, unless, slabRefusal}
+use Rattle.model.specs.Step.{refusalOf, refusal, grant, answer, answerBy, unless, slabRefusal}
 use Rattle.model.specs.Memory.{Memory, read, getWord, putWord, countedBy, countedSlabs, usedWords, hintWords, waitingWords, highWords}
 use Rattle.model.specs.MemoryAfter.{withWords, raiseWord, memoryEffect, memoryAfter}
 use Rattle.model.specs.Verdict.{Verdict, ok, refuse, _⨾_, test}
 use Rattle.model.proofs.Slabs.{part-countedSlabs, length-countedSlabs}
 use Rattle.model.proofs.Steps.{Fits, part-long}
-use Rattle.model.proofs.Tables.{part-at}
-use Rattle.model.proofs.Verdicts.{test-ok, first-ok, then-ok}
-use Rattle.tables.specs.Shapes.{slabFits}
-use Rattle.tables.proofs.Laws.{Ranges, capacities-range}
-use Rattle.tables.proofs.Lengths.{slabFits-read}
+use Rattle.model.proofs.Sizes.{shape-read, fits-range, fits-slot-marks, fits-tallies}
+use Rattle.model.proofs.Verdicts.{test-ok, first-ok, then-ok, assoc}
 use Rattle.truncation.specs.Truncations.{isCut, cutWith}
 
 -- ---- sizes
 size-range : ℕ → Bool
 size-range k = leb 1 (sizeOf k) && leb (sizeOf k) 17179869184
 
-pub sizeOf-range : (k : ℕ) → k < 78 → (1 ≤ sizeOf k) × (sizeOf k ≤ 17179869184)
+pub sizeOf-range : (k : ℕ) → k < slabs → (1 ≤ sizeOf k) × (sizeOf k ≤ 17179869184)
 unfolding sizeOf slabSizes size-range
 sizeOf-range k h =
-    let b = and-true (leb 1 (sizeOf k)) (leb (sizeOf k) 17179869184) (allBelow-at size-range 78 k refl h) in
+    let b = and-true (leb 1 (sizeOf k)) (leb (sizeOf k) 17179869184) (allBelow-at size-range slabs k refl h) in
     (leb-true _ _ (b .0), leb-true _ _ (b .1))
 
 -- the bytes up to a slot fit, and so do 115 times as many
-pub bytes-le : (top size : ℕ) → top < 65536 → size ≤ 17179869184 → (top + 1) * size ≤ 1125899906842624
-bytes-le top size a b = mul-le-mul {n₂ = 65536} {m₂ = 17179869184} (omega arith) b
-
--- ---- a slab's part of the marks
-pub slab-within : (k slots : ℕ) → k < 78 → k * slots + slots ≤ 78 * slots
-slab-within k slots h = omega (arith, mul-le-mul-right slots h, suc-mul k slots)
-
-pub part-of : (k slots : ℕ) (t : List ℕ) → take (k * slots + slots - k * slots) (drop (k * slots) t) ≡ part slots t k
-part-of k slots t = let e : k * slots + slots - k * slots ≡ slots = omega arith in ap (λ n. take n (drop (k * slots) t)) e
+pub bytes-le : (top size : ℕ) → top < mostSlots → size ≤ 17179869184 → (top + 1) * size ≤ 1125899906842624
+bytes-le top size a b = mul-le-mul {n₂ = mostSlots} {m₂ = 17179869184} (omega arith) b
 
 -- ---- by a tip that is not 0
 pub isCut-top : (k high t tip : ℕ) → (tip ≡ 0 → ⊥) → isCut k high t tip ≡ ltb (fill (sizeOf k) (tip - 1) (max high (tip - 1))) t
@@ -85,96 +81,80 @@ raised g after k tip high top h p q r = r ∙ ap (putWord g highWords k) (q ∙ 
 pub raiseWord-zero : (g : List ℕ) (k tip : ℕ) → tip ≡ 0 → raiseWord g k tip ≡ g
 raiseWord-zero g k tip e = ap (raiseWord g k) e
 
-pub cutWith-is : (k tip size length back : ℕ) → size ≡ sizeOf k → length ≡ newLength size (tip - 1) → back ≡ (tip - 1 + 1) * size - length → cut length back ≡ cutWith k tip
+pub cutWith-is : (k tip size length back : ℕ) → size ≡ sizeOf k → length ≡ newLength size (tip - 1) → back ≡ (tip - 1 + 1) * size - length
+    → granted (truncated (cut length back)) ≡ granted (truncated (cutWith k tip))
 unfolding cutWith
 cutWith-is k tip size length back s l b =
     let p : tip - 1 ≡ pred tip = omega arith in
     let l′ : length ≡ newLength (sizeOf k) (pred tip) = l ∙ λ i. newLength (s i) (p i) in
     let b′ : back ≡ bytesGivenBack (sizeOf k) (pred tip) = b ∙ (λ i. add-one (tip - 1) i * size - length) ∙ λ i. suc (p i) * s i - l′ i in
-    λ i. cut (l′ i) (b′ i)
+    λ i. granted (truncated (cut (l′ i) (b′ i)))
 
 cutAt-is : (s : Store) (k t tip : ℕ) → cutAt s k t tip ≡ cond (isCut k (highMark s k) t tip) (cutWith k tip) keep
 unfolding isCut cutWith
 cutAt-is s k t zero = refl
 cutAt-is s k t (suc top) = refl
 
--- ---- lengths
-pub record SlabFits (ids slots marks tallies : ℕ) : Type 0 where
-  pub range : Ranges ids slots
-  pub marks-long : marks ≡ slabs * slots
-  pub words-long : tallies ≡ 473
-
-pub slabFits-says : (ids slots marks batch tallies : ℕ) → slabFits ids slots marks batch tallies ≡ true → SlabFits ids slots marks tallies
-unfolding slabFits
-slabFits-says ids slots marks batch tallies e =
-    let a = and-true (capacities ids slots) _ e in
-    let b = and-true _ (eqb tallies 473) (a .1) in
-    let c = and-true (eqb marks (slabs * slots)) (eqb batch 513) (b .0) in
-    record { range = capacities-range ids slots (a .0); marks-long = eqb-true _ _ (c .0); words-long = eqb-true _ _ (b .1) }
-
 -- ---- what is read
 module _ (m : Memory) (k : ℕ) where
   pub high-read : highMark (read m) k ≡ getWord (m .tallies) highWords k
   unfolding read
-  high-read = getD-drop 395 (m .tallies) k 0
-
-  abbrev pub fits : Bool
-  fits = slabFits (m .ids) (m .slots) (length (m .slotMarks)) (length (m .batch)) (length (m .tallies))
+  high-read = getD-drop (highWords * allocators) (m .tallies) k 0
 
   -- the tests, on lengths and words
-  pub slabRefusal-read : (t : ℕ) → slabRefusal (read m) k t
-      ≡ (test (not fits) wrongShape 0 ⨾ test (ltb 0 (getD (m .batch) 0 0)) batchOpen 0 ⨾
+  pub asking-read : (t : ℕ) → refusal (read m) (truncation k t)
+      ≡ (test (not (fits slabTables m)) wrongShape 0 ⨾ test (ltb 0 (getD (m .batch) 0 0)) batchOpen 0 ⨾
       test (leb slabs k || leb (m .slots) (getWord (m .tallies) highWords k)) outOfRange 0 ⨾ test (not (isTarget t)) ratioOutOfRange 0)
-  unfolding read
-  slabRefusal-read t = λ i.
-      test (not (slabFits-read m i)) wrongShape 0 ⨾ test (ltb 0 (getD (m .batch) 0 0)) batchOpen 0 ⨾
+  unfolding refusal refusalOf read
+  asking-read t = λ i.
+      shape-read (truncation k t) m i ⨾ test (ltb 0 (getD (m .batch) 0 0)) batchOpen 0 ⨾
       test (leb slabs k || leb (m .slots) (high-read i)) outOfRange 0 ⨾ test (not (isTarget t)) ratioOutOfRange 0
 
   -- ---- one test after another: what each answers, once those before it are passed
   module _ (t : ℕ) where
-    pub ask-refused : (r : Refusal) (n : ℕ) → r ≡ record { number = n; index = 0 } → slabRefusal (read m) k t ≡ refuse n 0
-        → refused (r .number) (r .index) ≡ answerBy (slabRefusal (read m) k t) (gave (slabTip (read m) k))
+    pub ask-refused : (r : Refusal) (n : ℕ) → r ≡ record { number = n; index = 0 } → refusal (read m) (truncation k t) ≡ refuse n 0
+        → refused (r .number) (r .index) ≡ answerBy (refusal (read m) (truncation k t)) (gave (slabTip (read m) k))
     ask-refused r n p e = (λ i. refused (p i .number) (p i .index)) ∙ sym (ap (λ v. answerBy v (gave (slabTip (read m) k))) e)
 
-    pub ask-tip : (tip : ℕ) → tip ≡ slabTip (read m) k → slabRefusal (read m) k t ≡ ok → gave tip ≡ answerBy (slabRefusal (read m) k t) (gave (slabTip (read m) k))
-    ask-tip tip p e = ap gave p ∙ sym (ap (λ v. answerBy v (gave (slabTip (read m) k))) e)
+    pub ask-tip : (tip : ℕ) → tip ≡ slabTip (read m) k → refusal (read m) (truncation k t) ≡ ok → granted (gave tip) ≡ answerBy (refusal (read m) (truncation k t)) (gave (slabTip (read m) k))
+    ask-tip tip p e = ap (λ x. granted (gave x)) p ∙ sym (ap (λ v. answerBy v (gave (slabTip (read m) k))) e)
 
-    pub ask-shape : (f : Bool) → f ≡ fits → not f ≡ true → slabRefusal (read m) k t ≡ refuse wrongShape 0
+    pub ask-shape : (f : Bool) → f ≡ fits slabTables m → not f ≡ true → refusal (read m) (truncation k t) ≡ refuse wrongShape 0
     unfolding test _⨾_
-    ask-shape f p h = slabRefusal-read t ∙ simp (sym p ∙ not-true f h)
+    ask-shape f p h = asking-read t ∙ simp (sym p ∙ not-true f h)
 
-    module _ (fit : fits ≡ true) where
-      pub ask-open : (w : ℕ) → w ≡ getD (m .batch) 0 0 → (w ≡ 0 → ⊥) → slabRefusal (read m) k t ≡ refuse batchOpen 0
+    module _ (fit : fits slabTables m ≡ true) where
+      pub ask-open : (w : ℕ) → w ≡ getD (m .batch) 0 0 → (w ≡ 0 → ⊥) → refusal (read m) (truncation k t) ≡ refuse batchOpen 0
       unfolding test _⨾_
-      ask-open w p h = let kept : 0 < getD (m .batch) 0 0 = omega (arith, p, h) in slabRefusal-read t ∙ simp (fit, lt-ltb _ _ kept)
+      ask-open w p h = let kept : 0 < getD (m .batch) 0 0 = omega (arith, p, h) in asking-read t ∙ simp (fit, lt-ltb _ _ kept)
 
       module _ (w : ℕ) (p : w ≡ getD (m .batch) 0 0) (z : w ≡ 0) where
         shut : ltb 0 (getD (m .batch) 0 0) ≡ false
         shut = le-ltb 0 (getD (m .batch) 0 0) (omega (arith, p, z))
 
-        pub ask-slab : 78 ≤ k → slabRefusal (read m) k t ≡ refuse outOfRange 0
+        pub ask-slab : slabs ≤ k → refusal (read m) (truncation k t) ≡ refuse outOfRange 0
         unfolding test _⨾_
-        ask-slab h = slabRefusal-read t ∙ simp (fit, shut, le-leb 78 k h)
+        ask-slab h = asking-read t ∙ simp (fit, shut, le-leb slabs k h)
 
-        module _ (below : k < 78) (high : ℕ) (q : high ≡ getWord (m .tallies) highWords k) where
-          pub ask-high : m .slots ≤ high → slabRefusal (read m) k t ≡ refuse outOfRange 0
+        module _ (below : k < slabs) (high : ℕ) (q : high ≡ getWord (m .tallies) highWords k) where
+          pub ask-high : m .slots ≤ high → refusal (read m) (truncation k t) ≡ refuse outOfRange 0
           unfolding test _⨾_
-          ask-high h = let past : m .slots ≤ getWord (m .tallies) highWords k = omega (arith, q, h) in slabRefusal-read t ∙ simp (fit, shut, lt-leb 78 k below, le-leb _ _ past)
+          ask-high h = let past : m .slots ≤ getWord (m .tallies) highWords k = omega (arith, q, h) in asking-read t ∙ simp (fit, shut, lt-leb slabs k below, le-leb _ _ past)
 
           module _ (h : high < m .slots) (g : Bool) (r : g ≡ isTarget t) where
             low : leb (m .slots) (getWord (m .tallies) highWords k) ≡ false
             low = lt-leb (m .slots) (getWord (m .tallies) highWords k) (omega (arith, q, h))
 
-            pub ask-target : not g ≡ true → slabRefusal (read m) k t ≡ refuse ratioOutOfRange 0
+            pub ask-target : not g ≡ true → refusal (read m) (truncation k t) ≡ refuse ratioOutOfRange 0
             unfolding test _⨾_
-            ask-target e = slabRefusal-read t ∙ simp (fit, shut, lt-leb 78 k below, low, sym r ∙ not-true g e)
+            ask-target e = asking-read t ∙ simp (fit, shut, lt-leb slabs k below, low, sym r ∙ not-true g e)
 
-            pub ask-fine : not g ≡ false → slabRefusal (read m) k t ≡ ok
+            pub ask-fine : not g ≡ false → refusal (read m) (truncation k t) ≡ ok
             unfolding test _⨾_
-            ask-fine e = slabRefusal-read t ∙ simp (fit, shut, lt-leb 78 k below, low, sym r ∙ not-false g e)
+            ask-fine e = asking-read t ∙ simp (fit, shut, lt-leb slabs k below, low, sym r ∙ not-false g e)
 
   -- the tip, by the slab's own marks and words
-  pub slabTip-read : k < 78 → length (m .slotMarks) ≡ slabs * m .slots
+  pub slabTip-read : k < slabs → length (m .slotMarks) ≡ slabs * m .slots
       → slabTip (read m) k ≡ tip (hinted (getWord (m .tallies) hintWords (suc k)) (part (m .slots) (m .slotMarks) k)) (getWord (m .tallies) usedWords (suc k))
   unfolding read
   slabTip-read hk l =
@@ -182,45 +162,51 @@ module _ (m : Memory) (k : ℕ) where
       let z : 0 + k ≡ k = omega arith in
       let p : part (m .slots) (countedSlabs (m .slots) g slabs 0 (m .slotMarks)) k ≡ countedBy g (suc k) (part (m .slots) (m .slotMarks) k) =
       rw z at (part-countedSlabs (m .slots) g slabs 0 (m .slotMarks) k l hk) in
-      (λ i. tip (p i) (part-at allocators g usedWords (suc k) (omega arith) i))
+      (λ i. tip (p i) (part-at allocators g usedWords (suc k) 0 (omega arith) i))
       ∙ counted-tip (getWord g hintWords (suc k)) (getWord g waitingWords (suc k)) (part (m .slots) (m .slotMarks) k) (getWord g usedWords (suc k))
 
-  slabTip-le : (s : SlabFits (m .ids) (m .slots) (length (m .slotMarks)) (length (m .tallies))) → k < 78 → slabTip (read m) k ≤ 65536
+  slabTip-le : fits slabTables m ≡ true → k < slabs → slabTip (read m) k ≤ mostSlots
   unfolding read
   slabTip-le s hk =
-      let r = s .range in
+      let r = fits-range slabTables m s in
       let f : Fits (m .slots) (record { marks = read m .slotMarks; words = m .tallies }) = record {
         low = r .slots-from;
         high = r .slots-to;
-        marks-long = length-countedSlabs (m .slots) (m .tallies) slabs 0 (m .slotMarks) ∙ s .marks-long;
-        words-long = s .words-long;
+        marks-long = length-countedSlabs (m .slots) (m .tallies) slabs 0 (m .slotMarks) ∙ fits-slot-marks slabTables m s;
+        words-long = fits-tallies slabTables m s;
       } in
       let l = part-long (m .slots) (record { marks = read m .slotMarks; words = m .tallies }) f k hk .1 in
       omega (arith, l, r .slots-from, r .slots-to, tip-le (part (m .slots) (read m .slotMarks) k) (getD (read m .tallies .used) (suc k) 0) (omega (arith, l, r .slots-from)))
 
+-- a report asks the same first
+report-is : (m : Memory) (k t : ℕ) → refusal (read m) (report k t)
+    ≡ (refusal (read m) (truncation k t) ⨾ test (keeps (cutAt (read m) k t (slabTip (read m) k))) nothingToCut 0)
+unfolding refusal refusalOf
+report-is m k t = assoc (shape (read m) (truncation k t)) (slabRefusal (read m) k t) _
+
 -- ---- a slab that may be asked for
 pub record AskedTip (m : Memory) (k t tip : ℕ) : Type 0 where
-  pub fine : slabRefusal (read m) k t ≡ ok
+  pub fine : refusal (read m) (truncation k t) ≡ ok
   pub is : tip ≡ slabTip (read m) k
-  pub slab : k < 78
-  pub high : getWord (m .tallies) highWords k < 65536
-  pub small : tip ≤ 65536
+  pub slab : k < slabs
+  pub high : getWord (m .tallies) highWords k < mostSlots
+  pub small : tip ≤ mostSlots
 
-pub asked-tip : (m : Memory) (k t tip : ℕ) → gave tip ≡ answerBy (slabRefusal (read m) k t) (gave (slabTip (read m) k)) → AskedTip m k t tip
-asked-tip m k t tip e = go (slabRefusal (read m) k t) refl e
+pub asked-tip : (m : Memory) (k t tip : ℕ) → granted (gave tip) ≡ answerBy (refusal (read m) (truncation k t)) (gave (slabTip (read m) k)) → AskedTip m k t tip
+asked-tip m k t tip e = go (refusal (read m) (truncation k t)) refl e
   where
-    go : (v : Verdict) → slabRefusal (read m) k t ≡ v → gave tip ≡ answerBy v (gave (slabTip (read m) k)) → AskedTip m k t tip
+    go : (v : Verdict) → refusal (read m) (truncation k t) ≡ v → granted (gave tip) ≡ answerBy v (gave (slabTip (read m) k)) → AskedTip m k t tip
     go ok p e =
-        let q = sym (slabRefusal-read m k t) ∙ p in
-        let f = slabFits-says _ _ _ _ _ (not-false _ (test-ok _ _ _ (first-ok _ _ q))) in
+        let q = sym (asking-read m k t) ∙ p in
+        let f = not-false _ (test-ok _ _ _ (first-ok _ _ q)) in
         let o = or-false (leb slabs k) (leb (m .slots) (getWord (m .tallies) highWords k)) (test-ok _ _ _ (first-ok _ _ (then-ok _ _ (then-ok _ _ q)))) in
         let is : tip ≡ slabTip (read m) k = cc in
-        let slab : k < 78 = leb-false slabs k (o .0) in
+        let slab : k < slabs = leb-false slabs k (o .0) in
         record {
           fine = p;
           is = is;
           slab = slab;
-          high = omega (arith, leb-false (m .slots) (getWord (m .tallies) highWords k) (o .1), f .range .slots-to);
+          high = omega (arith, leb-false (m .slots) (getWord (m .tallies) highWords k) (o .1), fits-range slabTables m f .slots-to);
           small = omega (arith, slabTip-le m k f slab);
         }
     go (refuse n i) p e = let z : _≡_ {A = ℕ} 0 1 = cc in absurd (omega arith)
@@ -235,12 +221,12 @@ module _ (m : Memory) (k t tip : ℕ) (a : AskedTip m k t tip) where
   cut-read : cutAt (read m) k t (slabTip (read m) k) ≡ cond cuts (cutWith k tip) keep
   cut-read = (λ i. cutAt (read m) k t (sym (a .is) i)) ∙ cutAt-is (read m) k t tip ∙ ap (λ h. cond (isCut k h t tip) (cutWith k tip) keep) (high-read m k)
 
-  pub truncation-answer : answer (read m) (truncation k t) ≡ cond cuts (cutWith k tip) keep
-  unfolding answer refusal grant
-  truncation-answer = (λ i. answerBy (a .fine i) (cutAt (read m) k t (slabTip (read m) k))) ∙ cut-read
+  pub truncation-answer : answer (read m) (truncation k t) ≡ granted (truncated (cond cuts (cutWith k tip) keep))
+  unfolding answer grant
+  truncation-answer = (λ i. answerBy (a .fine i) (truncated (cutAt (read m) k t (slabTip (read m) k)))) ∙ ap (λ x. granted (truncated x)) cut-read
 
   pub truncation-after : memoryAfter m (truncation k t) ≡ withWords m (raiseWord g k tip)
-  unfolding memoryAfter memoryEffect refusal
+  unfolding memoryAfter memoryEffect
   truncation-after = λ i. unless (a .fine i) m (withWords m (raiseWord g k (sym (a .is) i)))
 
   keeps-cut : (b : Bool) → keeps (cond b (cutWith k tip) keep) ≡ not b
@@ -249,9 +235,8 @@ module _ (m : Memory) (k t tip : ℕ) (a : AskedTip m k t tip) where
   keeps-cut false = refl
 
   report-refusal : refusal (read m) (report k t) ≡ test (not cuts) nothingToCut 0
-  unfolding refusal _⨾_
-  report-refusal =
-      (λ i. a .fine i ⨾ test (keeps (cut-read i)) nothingToCut 0) ∙ ap (λ b. test b nothingToCut 0) (keeps-cut cuts)
+  unfolding _⨾_
+  report-refusal = report-is m k t ∙ (λ i. a .fine i ⨾ test (keeps (cut-read i)) nothingToCut 0) ∙ ap (λ b. test b nothingToCut 0) (keeps-cut cuts)
 
   pub report-keep : cuts ≡ false → (answer (read m) (report k t) ≡ refused nothingToCut 0) × (memoryAfter m (report k t) ≡ m)
   unfolding answer memoryAfter test
@@ -259,7 +244,7 @@ module _ (m : Memory) (k t tip : ℕ) (a : AskedTip m k t tip) where
       let r : refusal (read m) (report k t) ≡ refuse nothingToCut 0 = report-refusal ∙ ap (λ b. test (not b) nothingToCut 0) e in
       ((λ i. answerBy (r i) (grant (read m) (report k t))), λ i. unless (r i) m (memoryEffect m (report k t)))
 
-  pub report-cut : cuts ≡ true → (answer (read m) (report k t) ≡ done) × (memoryAfter m (report k t) ≡ withWords m (putWord g highWords k (tip - 1)))
+  pub report-cut : cuts ≡ true → (answer (read m) (report k t) ≡ granted done) × (memoryAfter m (report k t) ≡ withWords m (putWord g highWords k (tip - 1)))
   unfolding answer memoryAfter memoryEffect grant test
   report-cut e =
       let r : refusal (read m) (report k t) ≡ ok = report-refusal ∙ ap (λ b. test (not b) nothingToCut 0) e in
@@ -267,20 +252,20 @@ module _ (m : Memory) (k t tip : ℕ) (a : AskedTip m k t tip) where
       ((λ i. answerBy (r i) done), λ i. unless (r i) m (withWords m (putWord g highWords k (p i))))
 
 -- ---- one that may not
-pub asked-refused : (m : Memory) (k t n i : ℕ) → refused n i ≡ answerBy (slabRefusal (read m) k t) (gave (slabTip (read m) k)) → slabRefusal (read m) k t ≡ refuse n i
-asked-refused m k t n i e = go (slabRefusal (read m) k t) e
+pub asked-refused : (m : Memory) (k t n i : ℕ) → refused n i ≡ answerBy (refusal (read m) (truncation k t)) (gave (slabTip (read m) k)) → refusal (read m) (truncation k t) ≡ refuse n i
+asked-refused m k t n i e = go (refusal (read m) (truncation k t)) e
   where
     go : (v : Verdict) → refused n i ≡ answerBy v (gave (slabTip (read m) k)) → v ≡ refuse n i
     go ok e = let z : _≡_ {A = ℕ} 0 1 = cc in absurd (omega arith)
     go (refuse a b) e = let p : a ≡ n = cc in let q : b ≡ i = cc in λ j. refuse (p j) (q j)
 
-module _ (m : Memory) (k t n i : ℕ) (r : slabRefusal (read m) k t ≡ refuse n i) where
+module _ (m : Memory) (k t n i : ℕ) (r : refusal (read m) (truncation k t) ≡ refuse n i) where
   pub truncation-refused : (answer (read m) (truncation k t) ≡ refused n i) × (memoryAfter m (truncation k t) ≡ m)
-  unfolding answer memoryAfter refusal
+  unfolding answer memoryAfter
   truncation-refused = ((λ j. answerBy (r j) (grant (read m) (truncation k t))), λ j. unless (r j) m (memoryEffect m (truncation k t)))
 
   pub report-refused : (answer (read m) (report k t) ≡ refused n i) × (memoryAfter m (report k t) ≡ m)
-  unfolding answer memoryAfter refusal _⨾_
+  unfolding answer memoryAfter _⨾_
   report-refused =
-      let q : refusal (read m) (report k t) ≡ refuse n i = λ j. r j ⨾ test (keeps (cutAt (read m) k t (slabTip (read m) k))) nothingToCut 0 in
+      let q : refusal (read m) (report k t) ≡ refuse n i = report-is m k t ∙ λ j. r j ⨾ test (keeps (cutAt (read m) k t (slabTip (read m) k))) nothingToCut 0 in
       ((λ j. answerBy (q j) (grant (read m) (report k t))), λ j. unless (q j) m (memoryEffect m (report k t)))

@@ -12,26 +12,26 @@ ghost use mathlib.Core.Path.{_≡_};
 ghost use Prim.Native.Nat.{_*_, _<_, _≤_, suc, max};
 ghost use lib.Dec.{ltb};
 ghost use lib.ListN.{length};
+ghost use Rattle.list_parts.specs.Parts.{part};
 ghost use Rattle.marks.specs.Marks.{tip};
 ghost use Rattle.id_allocator.specs.Counted.{hinted};
-ghost use Rattle.model.specs.Store.{truncation, report, gave};
-ghost use Rattle.model.specs.Tables.{part, slabTip};
+ghost use Rattle.refusal.specs.Outcomes.{granted};
+ghost use Rattle.address.specs.Address.{slabs, mostSlots};
+ghost use Rattle.model.specs.Store.{truncation, report, gave, truncated, finishedAnswer};
+ghost use Rattle.model.specs.Tables.{slabTip};
 ghost use Rattle.model.specs.Truncation.{isTarget, fill, newLength};
-ghost use Rattle.model.specs.Step.{answer, answerBy, slabRefusal};
+ghost use Rattle.model.specs.Step.{refusal, answerBy};
 ghost use Rattle.model.specs.Memory.{read, getWord, usedWords, hintWords};
-ghost use Rattle.model.specs.MemoryAfter.{raiseWord, memoryAfter};
-ghost use Rattle.truncation.specs.Truncations.{slabMemory, askedAnswer, truncatedAnswer, reportedAnswer, isCut, cutWith};
+ghost use Rattle.model.specs.Lent.{lentTo, answered, leaves};
+ghost use Rattle.model.specs.MemoryAfter.{raiseWord};
+ghost use Rattle.truncation.specs.Truncations.{askedAnswer, truncatedAnswer, isCut, cutWith};
+use refusal::Finished;
 use refusal::Refusal;
 use tables::Capacities;
 
 pub enum Truncated {
     Keep,
     Cut { length: u64, given_back: u64 },
-    Refused(Refusal),
-}
-
-pub enum Reported {
-    Done,
     Refused(Refusal),
 }
 
@@ -63,7 +63,7 @@ fn is_target(t: u64) -> bool
 
 // Whether less than t percent of the file is in use, by the slab's size, its top slot and its high mark.
 fn sparse(size: u64, top: u64, high: u64, t: u64) -> bool
-    requires { ⌜ (1 ≤ size) × (size ≤ 17179869184) × (top < 65536) × (high < 65536) ⌝ }
+    requires { ⌜ (1 ≤ size) × (size ≤ 17179869184) × (top < mostSlots) × (high < mostSlots) ⌝ }
     ensures { λ r. ⌜ r ≡ ltb (fill size top high) t ⌝ }
 {
     (top + 1) * size * 100 / ((high + 1) * size) < t
@@ -71,7 +71,7 @@ fn sparse(size: u64, top: u64, high: u64, t: u64) -> bool
 
 // The length to cut to.
 fn new_length(size: u64, top: u64) -> u64
-    requires { ⌜ (size ≤ 17179869184) × (top < 65536) ⌝ }
+    requires { ⌜ (size ≤ 17179869184) × (top < mostSlots) ⌝ }
     ensures { λ r. ⌜ r ≡ newLength size top ⌝ }
 {
     let used = (top + 1) * size;
@@ -83,7 +83,7 @@ fn new_length(size: u64, top: u64) -> u64
 
 // Whether the slab's file is cut. At tip 0 it is kept.
 fn is_cut(slab: usize, tip: usize, high: u64, t: u64) -> bool
-    requires { ⌜ (slab < 78) × (tip ≤ 65536) × (high < 65536) ⌝ }
+    requires { ⌜ (slab < slabs) × (tip ≤ mostSlots) × (high < mostSlots) ⌝ }
     ensures { λ r. ⌜ r ≡ isCut slab high t tip ⌝ }
 {
     if tip == 0 {
@@ -95,8 +95,8 @@ fn is_cut(slab: usize, tip: usize, high: u64, t: u64) -> bool
 
 // The cut of a slab that is cut: its tip is not 0.
 fn cut_of(slab: usize, tip: usize) -> Truncated
-    requires { ⌜ (slab < 78) × (tip ≤ 65536) × (0 < tip) ⌝ }
-    ensures { λ r. ⌜ truncatedAnswer r ≡ cutWith slab tip ⌝ }
+    requires { ⌜ (slab < slabs) × (tip ≤ mostSlots) × (0 < tip) ⌝ }
+    ensures { λ r. ⌜ truncatedAnswer r ≡ granted (truncated (cutWith slab tip)) ⌝ }
 {
     let size = sizes::slab_size(slab);
     let top = tip as u64 - 1;
@@ -118,8 +118,10 @@ fn cut_of(slab: usize, tip: usize) -> Truncated
 
 // The tip of a slab.
 fn slab_tip(slots: usize, slot_marks: &[u8], tallies: &[u64], slab: usize) -> usize
-    requires { ⌜ (slab < 78) × (slots ≤ 65536) × (length (now «slot_marks») ≡ 78 * slots) ⌝ }
-    ensures { λ r. ⌜ r ≡ tip (hinted (getWord (now (tallies .entry)) hintWords (suc slab)) (part slots (now («slot_marks» .entry)) slab)) (getWord (now (tallies .entry)) usedWords (suc slab)) ⌝ }
+    requires { ⌜ (slab < slabs) × (slots ≤ mostSlots) × (length (now «slot_marks») ≡ slabs * slots) ⌝ }
+    ensures { λ r. ⌜ r
+        ≡ tip (hinted (getWord (now (tallies .entry)) hintWords (suc slab)) (part slots (now («slot_marks» .entry)) slab))
+        (getWord (now (tallies .entry)) usedWords (suc slab)) ⌝ }
 {
     let start = slab * slots;
     let end = start + slots;
@@ -137,8 +139,15 @@ fn ask(
     slab: u64,
     t: u64,
 ) -> Asked
-    ensures { λ r. ⌜ askedAnswer r ≡ answerBy (slabRefusal (read (slabMemory caps (now («slot_marks» .entry)) (now (batch .entry)) (now (tallies .entry)))) slab t)
-        (gave (slabTip (read (slabMemory caps (now («slot_marks» .entry)) (now (batch .entry)) (now (tallies .entry)))) slab)) ⌝ }
+    ensures { λ r. ⌜ askedAnswer r
+        ≡ answerBy (refusal (read (lentTo (truncation slab t) (caps .ids) (caps .slots)
+        (now («slot_marks» .entry))
+        (now (batch .entry))
+        (now (tallies .entry)))) (truncation slab t))
+        (gave (slabTip (read (lentTo (truncation slab t) (caps .ids) (caps .slots)
+        (now («slot_marks» .entry))
+        (now (batch .entry))
+        (now (tallies .entry)))) slab)) ⌝ }
 {
     if !tables::slab_fits(caps, slot_marks.len(), batch.len(), tallies.len()) {
         return Asked::Refused(Refusal::of(Refusal::WRONG_SHAPE));
@@ -180,9 +189,19 @@ pub fn truncation(
     slab: u64,
     t: u64,
 ) -> Truncated
-    ensures { λ r. ⌜ truncatedAnswer r ≡ answer (read (slabMemory caps (now («slot_marks» .entry)) (now (batch .entry)) (now (tallies .entry)))) (truncation slab t) ⌝ }
-    ensures { λ _. ⌜ slabMemory caps (now («slot_marks» .entry)) (now (batch .entry)) (now (tallies .exit))
-        ≡ memoryAfter (slabMemory caps (now («slot_marks» .entry)) (now (batch .entry)) (now (tallies .entry))) (truncation slab t) ⌝ }
+    ensures { λ r. ⌜ truncatedAnswer r
+        ≡ answered (truncation slab t) (caps .ids) (caps .slots)
+        (now («slot_marks» .entry))
+        (now (batch .entry))
+        (now (tallies .entry)) ⌝ }
+    ensures { λ _. ⌜ (lentTo (truncation slab t) (caps .ids) (caps .slots)
+        (now («slot_marks» .entry))
+        (now (batch .entry))
+        (now (tallies .exit)))
+        ≡ leaves (truncation slab t) (caps .ids) (caps .slots)
+        (now («slot_marks» .entry))
+        (now (batch .entry))
+        (now (tallies .entry)) ⌝ }
 {
     match ask(caps, slot_marks, batch, tallies, slab, t) {
         Asked::Tip(tip) => {
@@ -206,21 +225,31 @@ pub fn cut_done(
     tallies: &mut [u64],
     slab: u64,
     t: u64,
-) -> Reported
-    ensures { λ r. ⌜ reportedAnswer r ≡ answer (read (slabMemory caps (now («slot_marks» .entry)) (now (batch .entry)) (now (tallies .entry)))) (report slab t) ⌝ }
-    ensures { λ _. ⌜ slabMemory caps (now («slot_marks» .entry)) (now (batch .entry)) (now (tallies .exit))
-        ≡ memoryAfter (slabMemory caps (now («slot_marks» .entry)) (now (batch .entry)) (now (tallies .entry))) (report slab t) ⌝ }
+) -> Finished
+    ensures { λ r. ⌜ finishedAnswer r
+        ≡ answered (report slab t) (caps .ids) (caps .slots)
+        (now («slot_marks» .entry))
+        (now (batch .entry))
+        (now (tallies .entry)) ⌝ }
+    ensures { λ _. ⌜ (lentTo (report slab t) (caps .ids) (caps .slots)
+        (now («slot_marks» .entry))
+        (now (batch .entry))
+        (now (tallies .exit)))
+        ≡ leaves (report slab t) (caps .ids) (caps .slots)
+        (now («slot_marks» .entry))
+        (now (batch .entry))
+        (now (tallies .entry)) ⌝ }
 {
     match ask(caps, slot_marks, batch, tallies, slab, t) {
         Asked::Tip(tip) => {
             let slab = slab as usize;
             let high = tables::get(tallies, tables::HIGH, slab);
             if !is_cut(slab, tip, high, t) {
-                return Reported::Refused(Refusal::of(Refusal::NOTHING_TO_CUT));
+                return Finished::Refused(Refusal::of(Refusal::NOTHING_TO_CUT));
             }
             tables::put(tallies, tables::HIGH, slab, tip as u64 - 1);
-            Reported::Done
+            Finished::Done
         }
-        Asked::Refused(refusal) => Reported::Refused(refusal),
+        Asked::Refused(refusal) => Finished::Refused(refusal),
     }
 }

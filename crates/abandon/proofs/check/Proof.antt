@@ -2,8 +2,10 @@
 -- Assumes nothing.
 use mathlib.Core.Path.{sym, _∙_}
 use borrow.Author.Tests.{not-true, not-false}
-use Rattle.abandon.specs.Abandon.{abandonMemory}
-use Rattle.abandon.proofs.Laws.{abandon-shape, abandon-count, abandon-refused}
+use Rattle.model.specs.Lent.{lentTo}
+use Rattle.model.specs.Store as S
+use Rattle.model.proofs.Granted.{refused-shape}
+use Rattle.abandon.proofs.Laws.{abandon-count, abandon-refused}
 use Rattle.abandon.proofs.check.Statement.{statement}
 use Rattle.abandon.proofs.check.Tie as tie
 
@@ -16,8 +18,8 @@ of-requires c κs = search
 returns : tie.Need-returns
 returns c =
     let a = c .before .before .before .before .before .before .args in
-    let m = abandonMemory (a .caps .ids) (a .caps .slots) (a .slot-marks .now) (a .batch .now) (a .tallies .now) in
-    simp (c .of .ensures, abandon-shape m (sym (c .before .before .slab-fits .ensures) ∙ not-true _ (c .before .if1 .taken)))
+    let m = lentTo S.abandon (a .caps .ids) (a .caps .slots) (a .slot-marks .now) (a .batch .now) (a .tallies .now) in
+    simp (c .of .ensures, refused-shape m S.abandon (sym (c .before .before .slab-fits .ensures) ∙ not-true _ (c .before .if1 .taken)))
 
 opened-requires : tie.Need-opened-requires
 opened-requires c κs = search
@@ -25,8 +27,8 @@ opened-requires c κs = search
 enum-known-n : tie.Need-enum-known-n
 enum-known-n c = search
 
-check-rows-requires : tie.Need-check-rows-requires
-check-rows-requires c κs = search
+in-range-requires : tie.Need-in-range-requires
+in-range-requires c κs = search
 
 enum-known-refusal : tie.Need-enum-known-refusal
 enum-known-refusal c = search
@@ -34,13 +36,13 @@ enum-known-refusal c = search
 returns-2 : tie.Need-returns-2
 returns-2 c =
     let a = c .before .before .before .before .before .before .before .before .before .before .args in
-    let m = abandonMemory (a .caps .ids) (a .caps .slots) (a .slot-marks .now) (a .batch .now) (a .tallies .now) in
-    c .check-rows .ensures ∙ abandon-count m (sym (c .before .before .before .before .before .before .slab-fits .ensures) ∙ not-false _ (c .before .before .before .before .before .if1 .left)) _ (sym (c .before .before .before .before .opened .ensures) ∙ c .before .before .n .given .1)
+    let m = lentTo S.abandon (a .caps .ids) (a .caps .slots) (a .slot-marks .now) (a .batch .now) (a .tallies .now) in
+    c .in-range .ensures ∙ abandon-count m (sym (c .before .before .before .before .before .before .slab-fits .ensures) ∙ not-false _ (c .before .before .before .before .before .if1 .left)) _ (sym (c .before .before .before .before .opened .ensures) ∙ c .before .before .n .given .1)
 
 returns-3 : tie.Need-returns-3
 returns-3 c =
     let a = c .before .before .before .before .before .before .before .before .before .args in
-    let m = abandonMemory (a .caps .ids) (a .caps .slots) (a .slot-marks .now) (a .batch .now) (a .tallies .now) in
+    let m = lentTo S.abandon (a .caps .ids) (a .caps .slots) (a .slot-marks .now) (a .batch .now) (a .tallies .now) in
     abandon-refused m (sym (c .before .before .before .before .before .slab-fits .ensures) ∙ not-false _ (c .before .before .before .before .if1 .left)) _ _ (sym (c .before .before .before .opened .ensures) ∙ c .before .refusal .given .1)
 
 pub check-spec : {M : Type 1} → statement M
@@ -52,7 +54,7 @@ check-spec =
     returns
     opened-requires
     enum-known-n
-    check-rows-requires
+    in-range-requires
     enum-known-refusal
     returns-2
     returns-3)

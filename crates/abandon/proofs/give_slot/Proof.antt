@@ -2,11 +2,13 @@
 -- replaced (`gave-is`). Assumes nothing.
 use mathlib.Core.Path.{refl, sym, ap, _∙_}
 use native.Mathlib.Omega.{arith}
+use Rattle.list_parts.proofs.Parts.{part-end}
+use Rattle.address.specs.Address.{slabs}
 use Rattle.address.proofs.Laws.{unpacked-at, slots-range}
 use Rattle.model.specs.MemoryAfter.{Slots, gaveSlot}
 use Rattle.tables.proofs.LawsEntries.{else-is, start-lt}
 use Rattle.batch_kept.specs.Kept.{byAddress}
-use Rattle.batch_kept.proofs.Laws.{location-address, slab-end}
+use Rattle.batch_kept.proofs.Laws.{location-address}
 use Rattle.abandon.proofs.Laws.{gave-is}
 use borrow.Author.Needs.{needs}
 use Rattle.abandon.proofs.give_slot.Statement.{statement}
@@ -51,7 +53,7 @@ part-give-back-start c = search needs
 part-give-back-end : tie.Need-part-give-back-end
 part-give-back-end c =
     let u = unpacked-at _ _ _ (sym (c .before .before .before .before .before .unpack .ensures) ∙ c .before .before .before .address .given .1) in
-    omega (arith, slab-end (c .before .before .before .before .before .before .before .before .args .slots) _ (u .slab-lt), c .before .before .before .before .before .before .before .before .pre .1)
+    omega (arith, part-end (c .before .before .before .before .before .before .before .before .args .slots) slabs _ (u .slab-lt), c .before .before .before .before .before .before .before .before .pre .1)
 
 give-back-requires : tie.Need-give-back-requires
 give-back-requires c κs = search

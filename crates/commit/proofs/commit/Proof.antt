@@ -2,9 +2,12 @@
 -- Assumes nothing.
 use mathlib.Core.Path.{sym}
 use Rattle.model.specs.Store as S
-use Rattle.model.specs.Memory.{memoryOf}
+use Rattle.model.specs.Lending.{everyTable}
+use Rattle.model.proofs.Granted.{granted-fits}
+use Rattle.model.proofs.Sizes.{fits-range, fits-slot-marks}
+use Rattle.model.specs.Lent.{lentTo}
 use Rattle.batch_kept.proofs.Checked.{refused-answer, refused-after}
-use Rattle.commit.proofs.Laws.{fits-says, commit-fits, check-counted, check-told, commit-done, commit-leaves}
+use Rattle.commit.proofs.Laws.{check-counted, check-told, commit-done, commit-leaves}
 use Rattle.commit.proofs.commit.Statement.{statement}
 use Rattle.commit.proofs.commit.Tie as tie
 
@@ -20,10 +23,10 @@ enum-known-n c = search
 apply-rows-requires : tie.Need-apply-rows-requires
 apply-rows-requires c κs =
     let a = c .before .before .before .before .before .before .before .before .before .before .before .before .before .before .before .before .before .before .before .before .before .before .args in
-    let m = memoryOf (a .caps .ids) (a .caps .slots) (a .id-marks .now) (a .locations .now) (a .slot-marks .now) (a .owners .now) (a .batch .now) (a .tallies .now) in
+    let m = lentTo S.commit (a .caps .ids) (a .caps .slots) (a .id-marks .now) (a .locations .now) (a .slot-marks .now) (a .owners .now) (a .batch .now) (a .tallies .now) in
     let z = check-counted m (c .before .before .before .before .before .before .before .before .before .check .result) _ (c .before .before .before .before .before .before .before .before .before .check .ensures) (c .before .before .before .before .before .before .before .n .given .1) in
-    let l = fits-says m (commit-fits m (z .0)) in
-    (l .capacity, l .marks-long)
+    let f = granted-fits m S.commit (z .0) in
+    (fits-range everyTable m f .slots-good, fits-slot-marks everyTable m f)
 
 put-requires : tie.Need-put-requires
 put-requires c κs = search
@@ -49,7 +52,7 @@ same-length-6 c = search
 returns : tie.Need-returns
 returns c =
     let a = c .before .before .before .before .before .before .before .before .before .before .before .before .before .before .before .before .args in
-    let m = memoryOf (a .caps .ids) (a .caps .slots) (a .id-marks .now) (a .locations .now) (a .slot-marks .now) (a .owners .now) (a .batch .now) (a .tallies .now) in
+    let m = lentTo S.commit (a .caps .ids) (a .caps .slots) (a .id-marks .now) (a .locations .now) (a .slot-marks .now) (a .owners .now) (a .batch .now) (a .tallies .now) in
     let e = check-told m (c .before .before .before .check .result) _ (c .before .before .before .check .ensures) (c .before .refusal .given .1) in
     (sym (refused-answer m S.commit _ _ e), sym (refused-after m S.commit _ _ e))
 
@@ -74,7 +77,7 @@ same-length-12 c = search
 returns-2 : tie.Need-returns-2
 returns-2 c =
     let a = c .before .before .before .before .before .before .before .before .before .before .before .before .before .before .before .before .before .before .before .before .before .before .before .before .before .before .before .before .before .before .before .before .before .before .before .before .before .args in
-    let m = memoryOf (a .caps .ids) (a .caps .slots) (a .id-marks .now) (a .locations .now) (a .slot-marks .now) (a .owners .now) (a .batch .now) (a .tallies .now) in
+    let m = lentTo S.commit (a .caps .ids) (a .caps .slots) (a .id-marks .now) (a .locations .now) (a .slot-marks .now) (a .owners .now) (a .batch .now) (a .tallies .now) in
     let z = check-counted m (c .before .before .before .before .before .before .before .before .before .before .before .before .before .before .before .before .before .before .before .before .before .before .before .before .check .result) _ (c .before .before .before .before .before .before .before .before .before .before .before .before .before .before .before .before .before .before .before .before .before .before .before .before .check .ensures) (c .before .before .before .before .before .before .before .before .before .before .before .before .before .before .before .before .before .before .before .before .before .before .n .given .1) in
     (sym (commit-done m (z .0)), commit-leaves m (z .0) _ _ _ (z .1) (c .before .before .before .before .before .before .before .before .before .before .before .before .before .before .apply-rows .ensures) (c .before .before .put .ensures))
 

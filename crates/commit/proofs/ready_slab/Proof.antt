@@ -1,9 +1,10 @@
 -- A slab made ready, by its waiting word: as it is (`slab-busy`), or its part of the marks settled (`slab-quiet`). Assumes nothing.
 use mathlib.Core.Path.{sym, _∙_}
 use native.Mathlib.Omega.{arith}
+use Rattle.list_parts.proofs.Parts.{part-end}
+use Rattle.address.specs.Address.{slabs}
 use Rattle.address.proofs.Laws.{slots-range}
 use Rattle.tables.proofs.LawsEntries.{start-lt}
-use Rattle.batch_kept.proofs.Laws.{slab-end}
 use Rattle.commit.proofs.LawsApply.{slab-busy, slab-quiet}
 use borrow.Author.Needs.{needs}
 use Rattle.commit.proofs.ready_slab.Statement.{statement}
@@ -36,7 +37,7 @@ part-settle-start : tie.Need-part-settle-start
 part-settle-start c = search needs
 
 part-settle-end : tie.Need-part-settle-end
-part-settle-end c = omega (arith, slab-end (c .before .before .before .before .before .args .slots) (c .before .before .before .before .before .args .slab) (c .before .before .before .before .before .pre .0), c .before .before .before .before .before .pre .2)
+part-settle-end c = omega (arith, part-end (c .before .before .before .before .before .args .slots) slabs (c .before .before .before .before .before .args .slab) (c .before .before .before .before .before .pre .0), c .before .before .before .before .before .pre .2)
 
 settle-requires : tie.Need-settle-requires
 settle-requires c κs = search

@@ -6,8 +6,10 @@ use native.Mathlib.Omega.{arith}
 use borrow.Author.Tests.{not-true, not-false, eq-eqb, ne-eqb}
 use Rattle.model.specs.Verdict.{test, _⨾_}
 use Rattle.tables.proofs.LawsEntries.{badIn-read}
-use Rattle.lookup.specs.Lookup.{lookupMemory}
-use Rattle.lookup.proofs.Laws.{lookupFits-says, heldIn-lt, lookup-answer}
+use Rattle.model.specs.Lending.{placeTables}
+use Rattle.model.specs.Lent.{lentBy}
+use Rattle.model.proofs.Sizes.{fits-range, fits-locations, fits-slot-marks}
+use Rattle.lookup.proofs.Laws.{heldIn-lt, lookup-answer}
 use borrow.Author.Needs.{needs}
 use Rattle.lookup.proofs.get_location_for_object.Statement.{statement}
 use Rattle.lookup.proofs.get_location_for_object.Tie as tie
@@ -34,15 +36,19 @@ returns-2 c = simp (c .of2 .ensures, lookup-answer, sym (c .before .before .befo
 
 mul-location : tie.Need-mul-location
 mul-location c =
-    let l = lookupFits-says _ _ _ _ _ _ _ (sym (c .before .before .before .lookup-fits .ensures) ∙ not-false _ (c .before .before .if1 .left)) in
+    let a = c .before .before .before .before .before .before .before .before .before .args in
+    let m = lentBy placeTables (a .caps .ids) (a .caps .slots) (a .id-marks .now) (a .locations .now) (a .slot-marks .now) (a .owners .now) (a .tallies .now) in
+    let l = fits-locations placeTables m (sym (c .before .before .before .lookup-fits .ensures) ∙ not-false _ (c .before .before .if1 .left)) in
     let h = heldIn-lt _ _ _ _ (sym (c .before .held-id .ensures) ∙ not-false _ (c .if2 .left)) in
-    record { fits = omega (arith, l .locations-long) }
+    record { fits = omega (arith, l) }
 
 shared-slice-read-location : tie.Need-shared-slice-read-location
 shared-slice-read-location c =
-    let l = lookupFits-says _ _ _ _ _ _ _ (sym (c .before .before .before .before .lookup-fits .ensures) ∙ not-false _ (c .before .before .before .if1 .left)) in
+    let a = c .before .before .before .before .before .before .before .before .before .before .args in
+    let m = lentBy placeTables (a .caps .ids) (a .caps .slots) (a .id-marks .now) (a .locations .now) (a .slot-marks .now) (a .owners .now) (a .tallies .now) in
+    let l = fits-locations placeTables m (sym (c .before .before .before .before .lookup-fits .ensures) ∙ not-false _ (c .before .before .before .if1 .left)) in
     let h = heldIn-lt _ _ _ _ (sym (c .before .before .held-id .ensures) ∙ not-false _ (c .before .if2 .left)) in
-    omega (arith, l .locations-long)
+    omega (arith, l)
 
 of-requires-3 : tie.Need-of-requires-3
 of-requires-3 c κs = search needs
@@ -61,19 +67,17 @@ returns-4 : tie.Need-returns-4
 unfolding test _⨾_
 returns-4 c =
     let a = c .before .before .before .before .before .before .before .before .before .before .before .before .before .before .args in
-    let m = lookupMemory (a .caps .ids) (a .caps .slots) (a .id-marks .now) (a .locations .now) (a .slot-marks .now) (a .owners .now) (a .tallies .now) in
+    let m = lentBy placeTables (a .caps .ids) (a .caps .slots) (a .id-marks .now) (a .locations .now) (a .slot-marks .now) (a .owners .now) (a .tallies .now) in
     let s = sym (c .before .before .before .before .before .before .before .before .lookup-fits .ensures) ∙ not-false _ (c .before .before .before .before .before .before .before .if1 .left) in
-    let l = lookupFits-says _ _ _ _ _ _ _ s in
-    simp (c .of4 .ensures, lookup-answer, s, sym (c .before .before .before .before .before .before .held-id .ensures) ∙ not-false _ (c .before .before .before .before .before .if2 .left), ne-eqb _ _ (c .before .before .before .if3 .left), sym (badIn-read m (a .id) (getD (a .locations .now) (a .id) 0) (l .capacity) (l .marks-long)) ∙ sym (c .before .before .bad-location .ensures) ∙ c .before .if4 .taken)
+    simp (c .of4 .ensures, lookup-answer, s, sym (c .before .before .before .before .before .before .held-id .ensures) ∙ not-false _ (c .before .before .before .before .before .if2 .left), ne-eqb _ _ (c .before .before .before .if3 .left), sym (badIn-read m (a .id) (getD (a .locations .now) (a .id) 0) (fits-range placeTables m s .slots-good) (fits-slot-marks placeTables m s)) ∙ sym (c .before .before .bad-location .ensures) ∙ c .before .if4 .taken)
 
 returns-5 : tie.Need-returns-5
 unfolding test _⨾_
 returns-5 c =
     let a = c .before .before .before .before .before .before .before .before .before .before .before .before .before .args in
-    let m = lookupMemory (a .caps .ids) (a .caps .slots) (a .id-marks .now) (a .locations .now) (a .slot-marks .now) (a .owners .now) (a .tallies .now) in
+    let m = lentBy placeTables (a .caps .ids) (a .caps .slots) (a .id-marks .now) (a .locations .now) (a .slot-marks .now) (a .owners .now) (a .tallies .now) in
     let s = sym (c .before .before .before .before .before .before .before .lookup-fits .ensures) ∙ not-false _ (c .before .before .before .before .before .before .if1 .left) in
-    let l = lookupFits-says _ _ _ _ _ _ _ s in
-    simp (lookup-answer, s, sym (c .before .before .before .before .before .held-id .ensures) ∙ not-false _ (c .before .before .before .before .if2 .left), ne-eqb _ _ (c .before .before .if3 .left), sym (badIn-read m (a .id) (getD (a .locations .now) (a .id) 0) (l .capacity) (l .marks-long)) ∙ sym (c .before .bad-location .ensures) ∙ c .if4 .left)
+    simp (lookup-answer, s, sym (c .before .before .before .before .before .held-id .ensures) ∙ not-false _ (c .before .before .before .before .if2 .left), ne-eqb _ _ (c .before .before .if3 .left), sym (badIn-read m (a .id) (getD (a .locations .now) (a .id) 0) (fits-range placeTables m s .slots-good) (fits-slot-marks placeTables m s)) ∙ sym (c .before .bad-location .ensures) ∙ c .if4 .left)
 
 pub get-location-for-object-spec : {M : Type 1} → statement M
 get-location-for-object-spec =

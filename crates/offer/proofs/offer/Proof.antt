@@ -3,8 +3,10 @@
 use mathlib.Core.Path.{sym, ap, _∙_}
 use lib.ListN.{length, take}
 use borrow.Author.Needs.{needs}
-use Rattle.model.specs.Memory.{memoryOf}
-use Rattle.tables.specs.Verdicts.{judgedVerdict}
+use Rattle.model.specs.Lending.{everyTable}
+use Rattle.model.specs.Lent.{lentBy}
+use Rattle.model.specs.Store.{Offer}
+use Rattle.model.specs.Verdict.{judgedVerdict}
 use Rattle.offer.proofs.LawsOffer.{leaves-as, leaves-verdict, leaves-done, refused-shape, refused-open, refused-many, fits-told, fits-failed, rest-told, kinds-told, kinds-long}
 use Rattle.offer.proofs.offer.Statement.{statement}
 use Rattle.offer.proofs.offer.Tie as tie
@@ -18,8 +20,9 @@ of-requires c κs = search
 returns : tie.Need-returns
 returns c =
     let a = c .before .before .before .before .before .before .before .before .before .before .before .before .before .args in
-    let m = memoryOf (a .caps .ids) (a .caps .slots) (a .id-marks .now) (a .locations .now) (a .slot-marks .now) (a .owners .now) (a .batch .now) (a .tallies .now) in
-    leaves-as m (a .ids .now) (a .stores .now) (a .lengths .now) (a .placed .now) (c .of .result) 1 (c .of .ensures) (refused-shape m (a .ids .now) (a .stores .now) (a .lengths .now) (a .placed .now) (fits-failed m (a .ids .now) (a .stores .now) (a .lengths .now) (a .placed .now) (c .before .before .fits2 .result) (c .before .before .fits2 .ensures) (c .before .if1 .taken)))
+    let m = lentBy everyTable (a .caps .ids) (a .caps .slots) (a .id-marks .now) (a .locations .now) (a .slot-marks .now) (a .owners .now) (a .batch .now) (a .tallies .now) in
+    let o : Offer = record { ids = a .ids .now; stores = a .stores .now; lengths = a .lengths .now; placed = a .placed .now } in
+    leaves-as m o (c .of .result) 1 (c .of .ensures) (refused-shape m o (fits-failed m o (c .before .before .fits2 .result) (c .before .before .fits2 .ensures) (c .before .if1 .taken)))
 
 get-requires : tie.Need-get-requires
 get-requires c κs = search
@@ -33,9 +36,10 @@ same-length c = search
 returns-2 : tie.Need-returns-2
 returns-2 c =
     let a = c .before .before .before .before .before .before .before .before .before .before .before .before .before .before .before .before .args in
-    let m = memoryOf (a .caps .ids) (a .caps .slots) (a .id-marks .now) (a .locations .now) (a .slot-marks .now) (a .owners .now) (a .batch .now) (a .tallies .now) in
-    let e = fits-told m (a .ids .now) (a .stores .now) (a .lengths .now) (a .placed .now) (c .before .before .before .before .before .fits2 .result) (c .before .before .before .before .before .fits2 .ensures) (c .before .before .before .before .if1 .left) in
-    leaves-as m (a .ids .now) (a .stores .now) (a .lengths .now) (a .placed .now) (c .of2 .result) 11 (c .of2 .ensures) (refused-open m (a .ids .now) (a .stores .now) (a .lengths .now) (a .placed .now) e (λ q. c .before .if2 .taken (c .before .before .get .ensures ∙ q)))
+    let m = lentBy everyTable (a .caps .ids) (a .caps .slots) (a .id-marks .now) (a .locations .now) (a .slot-marks .now) (a .owners .now) (a .batch .now) (a .tallies .now) in
+    let o : Offer = record { ids = a .ids .now; stores = a .stores .now; lengths = a .lengths .now; placed = a .placed .now } in
+    let e = fits-told m o (c .before .before .before .before .before .fits2 .result) (c .before .before .before .before .before .fits2 .ensures) (c .before .before .before .before .if1 .left) in
+    leaves-as m o (c .of2 .result) 11 (c .of2 .ensures) (refused-open m o e (λ q. c .before .if2 .taken (c .before .before .get .ensures ∙ q)))
 
 of-requires-3 : tie.Need-of-requires-3
 of-requires-3 c κs = search
@@ -46,10 +50,11 @@ same-length-2 c = search
 returns-3 : tie.Need-returns-3
 returns-3 c =
     let a = c .before .before .before .before .before .before .before .before .before .before .before .before .before .before .before .before .before .args in
-    let m = memoryOf (a .caps .ids) (a .caps .slots) (a .id-marks .now) (a .locations .now) (a .slot-marks .now) (a .owners .now) (a .batch .now) (a .tallies .now) in
-    let e = fits-told m (a .ids .now) (a .stores .now) (a .lengths .now) (a .placed .now) (c .before .before .before .before .before .before .fits2 .result) (c .before .before .before .before .before .before .fits2 .ensures) (c .before .before .before .before .before .if1 .left) in
+    let m = lentBy everyTable (a .caps .ids) (a .caps .slots) (a .id-marks .now) (a .locations .now) (a .slot-marks .now) (a .owners .now) (a .batch .now) (a .tallies .now) in
+    let o : Offer = record { ids = a .ids .now; stores = a .stores .now; lengths = a .lengths .now; placed = a .placed .now } in
+    let e = fits-told m o (c .before .before .before .before .before .before .fits2 .result) (c .before .before .before .before .before .before .fits2 .ensures) (c .before .before .before .before .before .if1 .left) in
     let z = c .before .before .if2 .left in
-    leaves-as m (a .ids .now) (a .stores .now) (a .lengths .now) (a .placed .now) (c .of3 .result) 15 (c .of3 .ensures) (refused-many m (a .ids .now) (a .stores .now) (a .lengths .now) (a .placed .now) e (sym (c .before .before .before .get .ensures) ∙ z) (c .before .if3 .taken))
+    leaves-as m o (c .of3 .result) 15 (c .of3 .ensures) (refused-many m o e (sym (c .before .before .before .get .ensures) ∙ z) (c .before .if3 .taken))
 
 kinds-requires : tie.Need-kinds-requires
 kinds-requires c κs = search
@@ -60,10 +65,11 @@ array-share-prefix-all c = search needs
 slice-aggregate-slabs : tie.Need-slice-aggregate-slabs
 slice-aggregate-slabs c =
     let a = c .before .before .before .before .before .before .before .before .before .before .before .before .before .before .before .before .before .before .args in
-    let m = memoryOf (a .caps .ids) (a .caps .slots) (a .id-marks .now) (a .locations .now) (a .slot-marks .now) (a .owners .now) (a .batch .now) (a .tallies .now) in
-    let e = fits-told m (a .ids .now) (a .stores .now) (a .lengths .now) (a .placed .now) (c .before .before .before .before .before .before .before .fits2 .result) (c .before .before .before .before .before .before .before .fits2 .ensures) (c .before .before .before .before .before .before .if1 .left) in
+    let m = lentBy everyTable (a .caps .ids) (a .caps .slots) (a .id-marks .now) (a .locations .now) (a .slot-marks .now) (a .owners .now) (a .batch .now) (a .tallies .now) in
+    let o : Offer = record { ids = a .ids .now; stores = a .stores .now; lengths = a .lengths .now; placed = a .placed .now } in
+    let e = fits-told m o (c .before .before .before .before .before .before .before .fits2 .result) (c .before .before .before .before .before .before .before .fits2 .ensures) (c .before .before .before .before .before .before .if1 .left) in
     let few = c .before .before .if3 .left in
-    sym (kinds-long m (a .ids .now) (a .stores .now) (a .lengths .now) (a .placed .now) e few (c .before .kinds .result) (c .before .kinds .ensures))
+    sym (kinds-long m o e few (c .before .kinds .result) (c .before .kinds .ensures))
 
 refused-requires : tie.Need-refused-requires
 refused-requires c κs = search
@@ -83,13 +89,14 @@ same-length-5 c = search
 returns-4 : tie.Need-returns-4
 returns-4 c =
     let a = c .before .before .before .before .before .before .before .before .before .before .before .before .before .before .before .before .before .before .before .before .before .before .before .before .args in
-    let m = memoryOf (a .caps .ids) (a .caps .slots) (a .id-marks .now) (a .locations .now) (a .slot-marks .now) (a .owners .now) (a .batch .now) (a .tallies .now) in
-    let e = fits-told m (a .ids .now) (a .stores .now) (a .lengths .now) (a .placed .now) (c .before .before .before .before .before .before .before .before .before .before .before .before .before .fits2 .result) (c .before .before .before .before .before .before .before .before .before .before .before .before .before .fits2 .ensures) (c .before .before .before .before .before .before .before .before .before .before .before .before .if1 .left) in
+    let m = lentBy everyTable (a .caps .ids) (a .caps .slots) (a .id-marks .now) (a .locations .now) (a .slot-marks .now) (a .owners .now) (a .batch .now) (a .tallies .now) in
+    let o : Offer = record { ids = a .ids .now; stores = a .stores .now; lengths = a .lengths .now; placed = a .placed .now } in
+    let e = fits-told m o (c .before .before .before .before .before .before .before .before .before .before .before .before .before .fits2 .result) (c .before .before .before .before .before .before .before .before .before .before .before .before .before .fits2 .ensures) (c .before .before .before .before .before .before .before .before .before .before .before .before .if1 .left) in
     let z = c .before .before .before .before .before .before .before .before .before .if2 .left in
     let few = c .before .before .before .before .before .before .before .before .if3 .left in
     let r = c .before .before .before .before .before .before .before .kinds .result in
-    leaves-verdict m (a .ids .now) (a .stores .now) (a .lengths .now) (a .placed .now) (c .before .before .before .refused .result) _ (c .before .judged .given .1)
-    (rest-told m (a .ids .now) (a .stores .now) (a .lengths .now) (a .placed .now) e (sym (c .before .before .before .before .before .before .before .before .before .before .get .ensures) ∙ z) few (take (length (a .ids .now)) r) (kinds-told m (a .ids .now) (a .stores .now) (a .lengths .now) (a .placed .now) e few r (c .before .before .before .before .before .before .before .kinds .ensures)) _ (c .before .before .before .refused .ensures))
+    leaves-verdict m o (c .before .before .before .refused .result) _ (c .before .judged .given .1)
+    (rest-told m o e (sym (c .before .before .before .before .before .before .before .before .before .before .get .ensures) ∙ z) few (take (length (a .ids .now)) r) (kinds-told m o e few r (c .before .before .before .before .before .before .before .kinds .ensures)) _ (c .before .before .before .refused .ensures))
 
 enum-told : tie.Need-enum-told
 enum-told c = search
@@ -118,15 +125,16 @@ same-length-9 c = search
 returns-5 : tie.Need-returns-5
 returns-5 c =
     let a = c .before .before .before .before .before .before .before .before .before .before .before .before .before .before .before .before .before .before .before .before .before .before .before .before .before .before .before .before .before .before .before .before .before .before .before .before .before .before .args in
-    let m = memoryOf (a .caps .ids) (a .caps .slots) (a .id-marks .now) (a .locations .now) (a .slot-marks .now) (a .owners .now) (a .batch .now) (a .tallies .now) in
-    let e = fits-told m (a .ids .now) (a .stores .now) (a .lengths .now) (a .placed .now) (c .before .before .before .before .before .before .before .before .before .before .before .before .before .before .before .before .before .before .before .before .before .before .before .before .before .before .before .fits2 .result) (c .before .before .before .before .before .before .before .before .before .before .before .before .before .before .before .before .before .before .before .before .before .before .before .before .before .before .before .fits2 .ensures) (c .before .before .before .before .before .before .before .before .before .before .before .before .before .before .before .before .before .before .before .before .before .before .before .before .before .before .if1 .left) in
+    let m = lentBy everyTable (a .caps .ids) (a .caps .slots) (a .id-marks .now) (a .locations .now) (a .slot-marks .now) (a .owners .now) (a .batch .now) (a .tallies .now) in
+    let o : Offer = record { ids = a .ids .now; stores = a .stores .now; lengths = a .lengths .now; placed = a .placed .now } in
+    let e = fits-told m o (c .before .before .before .before .before .before .before .before .before .before .before .before .before .before .before .before .before .before .before .before .before .before .before .before .before .before .before .fits2 .result) (c .before .before .before .before .before .before .before .before .before .before .before .before .before .before .before .before .before .before .before .before .before .before .before .before .before .before .before .fits2 .ensures) (c .before .before .before .before .before .before .before .before .before .before .before .before .before .before .before .before .before .before .before .before .before .before .before .before .before .before .if1 .left) in
     let z = c .before .before .before .before .before .before .before .before .before .before .before .before .before .before .before .before .before .before .before .before .before .before .before .if2 .left in
     let few = c .before .before .before .before .before .before .before .before .before .before .before .before .before .before .before .before .before .before .before .before .before .before .if3 .left in
     let r = c .before .before .before .before .before .before .before .before .before .before .before .before .before .before .before .before .before .before .before .before .before .kinds .result in
     let ks = take (length (a .ids .now)) r in
-    let κ = kinds-told m (a .ids .now) (a .stores .now) (a .lengths .now) (a .placed .now) e few r (c .before .before .before .before .before .before .before .before .before .before .before .before .before .before .before .before .before .before .before .before .before .kinds .ensures) in
-    let g = rest-told m (a .ids .now) (a .stores .now) (a .lengths .now) (a .placed .now) e (sym (c .before .before .before .before .before .before .before .before .before .before .before .before .before .before .before .before .before .before .before .before .before .before .before .before .get .ensures) ∙ z) few ks κ _ (c .before .before .before .before .before .before .before .before .before .before .before .before .before .before .before .before .before .refused .ensures) ∙ ap judgedVerdict (c .before .before .before .before .before .before .before .before .before .before .before .before .before .before .before .enum-told .given .1) in
-    leaves-done m (a .ids .now) (a .stores .now) (a .lengths .now) (a .placed .now) e (sym (c .before .before .before .before .before .before .before .before .before .before .before .before .before .before .before .before .before .before .before .before .before .before .before .before .get .ensures) ∙ z) few ks κ _ _ _ _ g (c .before .before .before .before .before .before .before .before .before .before .before .place .ensures .0) (c .before .before .before .before .before .before .before .before .before .before .before .place .ensures .1) (c .before .before .keep .ensures)
+    let κ = kinds-told m o e few r (c .before .before .before .before .before .before .before .before .before .before .before .before .before .before .before .before .before .before .before .before .before .kinds .ensures) in
+    let g = rest-told m o e (sym (c .before .before .before .before .before .before .before .before .before .before .before .before .before .before .before .before .before .before .before .before .before .before .before .before .get .ensures) ∙ z) few ks κ _ (c .before .before .before .before .before .before .before .before .before .before .before .before .before .before .before .before .before .refused .ensures) ∙ ap judgedVerdict (c .before .before .before .before .before .before .before .before .before .before .before .before .before .before .before .enum-told .given .1) in
+    leaves-done m o e (sym (c .before .before .before .before .before .before .before .before .before .before .before .before .before .before .before .before .before .before .before .before .before .before .before .before .get .ensures) ∙ z) few ks κ _ _ _ _ g (c .before .before .before .before .before .before .before .before .before .before .before .place .ensures .0) (c .before .before .before .before .before .before .before .before .before .before .before .place .ensures .1) (c .before .before .keep .ensures)
 
 pub offer-spec : {M : Type 1} → statement M
 offer-spec =

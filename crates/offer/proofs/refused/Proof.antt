@@ -1,6 +1,7 @@
 -- `offer::refused` meets its contract: a verdict that refuses decides, else the next one does. Assumes nothing.
 use mathlib.Core.Path.{ap, _∙_}
 use borrow.Author.Needs.{needs}
+use Rattle.address.specs.Address.{slabs}
 use Rattle.offer_room.specs.Room.{roomIn}
 use Rattle.offer.proofs.LawsOffer.{seq-stop, seq-on}
 use Rattle.offer.proofs.refused.Statement.{statement}
@@ -30,7 +31,7 @@ room-requires c κs = search
 returns-2 : tie.Need-returns-2
 returns-2 c =
     let a = c .before .before .before .before .before .before .before .before .before .before .before .before .before .args in
-    c .room .ensures ∙ ap (λ t. roomIn (a .caps .slots) (a .slot-marks .now) (a .tallies .now) t 78 0) (c .before .before .tally .ensures) ∙ seq-on (c .before .before .before .before .before .check .result) _ _ (c .before .before .before .before .before .check .ensures) (c .before .before .before .enum-told .given .1)
+    c .room .ensures ∙ ap (λ t. roomIn (a .caps .slots) (a .slot-marks .now) (a .tallies .now) t slabs 0) (c .before .before .tally .ensures) ∙ seq-on (c .before .before .before .before .before .check .result) _ _ (c .before .before .before .before .before .check .ensures) (c .before .before .before .enum-told .given .1)
 
 pub refused-spec : {M : Type 1} → statement M
 refused-spec =

@@ -1,7 +1,7 @@
 -- `places::spot` meets its contract: its tests are those of `spotIn`. Assumes nothing.
 use mathlib.Core.Path.{sym, ap, _∙_}
 use borrow.Author.Needs.{needs}
-use Rattle.offer_places.specs.Places.{locationIn}
+use Rattle.address.specs.Address.{locationIn}
 use Rattle.offer_places.proofs.Laws.{spotIn-none, spotIn-at}
 use Rattle.offer_places.proofs.spot.Statement.{statement}
 use Rattle.offer_places.proofs.spot.Tie as tie

@@ -4,6 +4,7 @@ use mathlib.Core.Path.{_≡_, refl, ap, _∙_}
 use Prim.Native.Nat.{_≤_, _-_}
 use borrow.Author.Needs.{needs}
 use Rattle.refusal.specs.declared.Refusal.{Refusal}
+use Rattle.address.specs.Address.{slabs}
 use Rattle.model.specs.Verdict.{refuse}
 use Rattle.offer_room.specs.Room.{roomIn}
 use Rattle.offer_room.proofs.Laws.{room-stop, room-on, room-end}
@@ -11,10 +12,10 @@ use Rattle.offer_room.proofs.room.Statement.{statement}
 use Rattle.offer_room.proofs.room.Tie as tie
 
 abbrev Inv-loop : tie.InvT-loop
-Inv-loop slots slot-marks tallies asked slab₀ slab = (slab ≤ 78) × (roomIn slots slot-marks tallies asked (78 - slab) slab ≡ roomIn slots slot-marks tallies asked 78 0)
+Inv-loop slots slot-marks tallies asked slab₀ slab = (slab ≤ slabs) × (roomIn slots slot-marks tallies asked (slabs - slab) slab ≡ roomIn slots slot-marks tallies asked slabs 0)
 
 abbrev μ-loop : tie.MeasureT-loop
-μ-loop slots slot-marks tallies asked slab₀ slab = 78 - slab
+μ-loop slots slot-marks tallies asked slab₀ slab = slabs - slab
 
 loop-holds : tie.Need-loop-holds Inv-loop μ-loop
 loop-holds c = (search needs, refl)

@@ -4,16 +4,17 @@ use mathlib.Core.Path.{_≡_, refl, sym, _∙_}
 use Prim.Native.Nat.{_≤_, _-_}
 use lib.ListN.{length, drop}
 use borrow.Author.Needs.{needs}
+use Rattle.address.specs.Address.{slabs}
 use Rattle.offer_room.specs.Room.{noneAsked, tallied}
 use Rattle.offer_room.proofs.Laws.{tallied-turn, tallied-end}
 use Rattle.offer_room.proofs.tally.Statement.{statement}
 use Rattle.offer_room.proofs.tally.Tie as tie
 
 abbrev Inv-loop : tie.InvT-loop
-Inv-loop slabs asked₀ i₀ asked i = (i ≤ length slabs) × (length asked ≡ 78) × (tallied asked (drop i slabs) ≡ tallied noneAsked slabs)
+Inv-loop ks asked₀ i₀ asked i = (i ≤ length ks) × (length asked ≡ slabs) × (tallied asked (drop i ks) ≡ tallied noneAsked ks)
 
 abbrev μ-loop : tie.MeasureT-loop
-μ-loop slabs asked₀ i₀ asked i = length slabs - i
+μ-loop ks asked₀ i₀ asked i = length ks - i
 
 loop-holds : tie.Need-loop-holds Inv-loop μ-loop
 unfolding noneAsked

@@ -9,16 +9,17 @@ use lib.ListN.{length, drop, getD}
 use borrow.Author.Needs.{needs}
 use Rattle.refusal.specs.declared.Refusal.{Refusal}
 use Rattle.refusal.proofs.Tests.{clash}
-use Rattle.model.specs.Tables.{elem}
+use Rattle.list_parts.specs.Lists.{elem}
 use Rattle.model.specs.Verdict.{refuse}
 use Rattle.offer_updates.specs.Kinds.{before, checkIn}
-use Rattle.model.specs.Memory.{memoryOf}
+use Rattle.model.specs.Lending.{placeTables}
+use Rattle.model.specs.Lent.{lentBy}
 use Rattle.offer_updates.proofs.Laws.{row-told, check-stop, check-on, check-end, check-short, seen-on, far}
 use Rattle.offer_updates.proofs.check.Statement.{statement}
 use Rattle.offer_updates.proofs.check.Tie as tie
 
 abbrev Inv-loop : tie.InvT-loop
-Inv-loop caps id-marks locations slot-marks owners tallies ids slabs found seen₀ i₀ seen i = (i ≤ length ids) × (length seen ≡ 4096) × ((x : ℕ) → elem x (before i ids) ≡ true → getD seen (x % 4096) false ≡ true) × (checkIn (memoryOf (caps .ids) (caps .slots) id-marks locations slot-marks owners [] tallies) (before i ids) i (drop i ids) (drop i slabs) ≡ checkIn (memoryOf (caps .ids) (caps .slots) id-marks locations slot-marks owners [] tallies) [] 0 ids slabs)
+Inv-loop caps id-marks locations slot-marks owners tallies ids slabs found seen₀ i₀ seen i = (i ≤ length ids) × (length seen ≡ 4096) × ((x : ℕ) → elem x (before i ids) ≡ true → getD seen (x % 4096) false ≡ true) × (checkIn (lentBy placeTables (caps .ids) (caps .slots) id-marks locations slot-marks owners tallies) (before i ids) i (drop i ids) (drop i slabs) ≡ checkIn (lentBy placeTables (caps .ids) (caps .slots) id-marks locations slot-marks owners tallies) [] 0 ids slabs)
 
 abbrev μ-loop : tie.MeasureT-loop
 μ-loop caps id-marks locations slot-marks owners tallies ids slabs found seen₀ i₀ seen i = length ids - i
@@ -69,7 +70,7 @@ returns-2 : tie.Need-returns-2 Inv-loop μ-loop
 returns-2 c =
     let l = c .before .before .before .before .before .before .before .before .before .loop in
     let a = c .before .before .before .before .before .before .before .before .before .before .before .before .before .before .before .before .before .before .args in
-    let m = memoryOf (a .caps .ids) (a .caps .slots) (a .id-marks .now) (a .locations .now) (a .slot-marks .now) (a .owners .now) [] (a .tallies .now) in
+    let m = lentBy placeTables (a .caps .ids) (a .caps .slots) (a .id-marks .now) (a .locations .now) (a .slot-marks .now) (a .owners .now) (a .tallies .now) in
     ap (λ (r : Refusal). refuse (r .number) (r .index)) (c .at .ensures)
     ∙ check-stop m (a .ids .now) (a .slabs .now) (l .i) (c .before .before .number .result) (search needs) (search needs)
     (row-told m (before (l .i) (a .ids .now)) (getD (a .ids .now) (l .i) 0) (getD (a .slabs .now) (l .i) 0) _ _ (c .before .before .number .ensures) (c .before .before .before .before .location-of .ensures)) (c .before .if2 .taken) ∙ l .inv .3
@@ -87,7 +88,7 @@ loop-again : tie.Need-loop-again Inv-loop μ-loop
 loop-again c =
     let l = c .before .before .before .before .before .before .before .before .loop in
     let a = c .before .before .before .before .before .before .before .before .before .before .before .before .before .before .before .before .before .args in
-    let m = memoryOf (a .caps .ids) (a .caps .slots) (a .id-marks .now) (a .locations .now) (a .slot-marks .now) (a .owners .now) [] (a .tallies .now) in (
+    let m = lentBy placeTables (a .caps .ids) (a .caps .slots) (a .id-marks .now) (a .locations .now) (a .slot-marks .now) (a .owners .now) (a .tallies .now) in (
       search needs,
       search needs,
       seen-on (a .ids .now) (l .i) (l .seen) (l .inv .1) (l .inv .2),

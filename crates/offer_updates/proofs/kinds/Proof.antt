@@ -6,13 +6,14 @@ use native.Mathlib.Omega.{arith}
 use lib.ListN.{length, drop}
 use lib.Seq.{sets}
 use borrow.Author.Needs.{needs}
+use Rattle.model.specs.Tables.{mostUpdates}
 use Rattle.offer_updates.specs.Kinds.{noKinds, kindsOf}
 use Rattle.offer_updates.proofs.Laws.{kinds-turn, kinds-end, kinds-short, sets-out}
 use Rattle.offer_updates.proofs.kinds.Statement.{statement}
 use Rattle.offer_updates.proofs.kinds.Tie as tie
 
 abbrev Inv-loop : tie.InvT-loop
-Inv-loop stores lengths slabs₀ i₀ slabs i = (i ≤ length stores) × (length slabs ≡ 256) × (sets slabs i (kindsOf (drop i stores) (drop i lengths)) ≡ sets noKinds 0 (kindsOf stores lengths))
+Inv-loop stores lengths slabs₀ i₀ slabs i = (i ≤ length stores) × (length slabs ≡ mostUpdates) × (sets slabs i (kindsOf (drop i stores) (drop i lengths)) ≡ sets noKinds 0 (kindsOf stores lengths))
 
 abbrev μ-loop : tie.MeasureT-loop
 μ-loop stores lengths slabs₀ i₀ slabs i = length stores - i

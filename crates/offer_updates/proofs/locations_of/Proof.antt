@@ -5,12 +5,13 @@ use Prim.Native.Nat.{ℕ, _+_, _-_, _≤_, _<_}
 use native.Mathlib.Omega.{arith}
 use lib.ListN.{length, getD}
 use borrow.Author.Needs.{needs}
+use Rattle.model.specs.Tables.{mostUpdates}
 use Rattle.offer_updates.proofs.Laws.{found-on}
 use Rattle.offer_updates.proofs.locations_of.Statement.{statement}
 use Rattle.offer_updates.proofs.locations_of.Tie as tie
 
 abbrev Inv-loop : tie.InvT-loop
-Inv-loop locations ids found₀ i₀ found i = (i ≤ length ids) × (length found ≡ 256) × ((k : ℕ) → k < i → k < 256 → getD found k 0 ≡ getD locations (0 + getD ids k 0) 0)
+Inv-loop locations ids found₀ i₀ found i = (i ≤ length ids) × (length found ≡ mostUpdates) × ((k : ℕ) → k < i → k < mostUpdates → getD found k 0 ≡ getD locations (0 + getD ids k 0) 0)
 
 abbrev μ-loop : tie.MeasureT-loop
 μ-loop locations ids found₀ i₀ found i = length ids - i

@@ -1,11 +1,11 @@
 -- `updates::repeated` meets its contract. The loop's invariant: the id is among all that came before exactly if it is among those before j. The
 -- measure is j. Assumes nothing.
 use mathlib.Core.Path.{_≡_, refl, sym, ap, _∙_}
-use Prim.Native.Nat.{_≤_, _-_}
+use Prim.Native.Nat.{_≤_}
 use native.Mathlib.Omega.{arith}
 use lib.ListN.{getD}
 use borrow.Author.Needs.{needs}
-use Rattle.model.specs.Tables.{elem}
+use Rattle.list_parts.specs.Lists.{elem}
 use Rattle.offer_updates.specs.Kinds.{before}
 use Rattle.offer_updates.proofs.Laws.{before-met, before-not}
 use Rattle.offer_updates.proofs.repeated.Statement.{statement}

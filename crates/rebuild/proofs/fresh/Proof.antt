@@ -1,8 +1,9 @@
 -- `rebuild::fresh` meets its contract: where the lengths are wrong nothing is written, else every table is zeros, which is a rebuild from no rows. Assumes nothing.
 use mathlib.Core.Path.{ap, _∙_}
 use denote.Ref.{now}
-use Rattle.model.specs.Store.{refused}
-use Rattle.model.specs.Memory.{memoryOf}
+use Rattle.refusal.specs.Outcomes.{refusedAs}
+use Rattle.model.specs.Store as S
+use Rattle.model.specs.Lent.{lentTo}
 use Rattle.rebuild.proofs.Granted.{fresh-refused, fresh-granted}
 use Rattle.rebuild.proofs.fresh.Statement.{statement}
 use Rattle.rebuild.proofs.fresh.Tie as tie
@@ -16,9 +17,9 @@ of-requires c κs = search
 returns : tie.Need-returns
 returns c =
     let a = c .before .before .before .before .before .before .before .before .before .args in
-    let m = memoryOf (a .caps .ids) (a .caps .slots) (now (a .id-marks)) (now (a .locations)) (now (a .slot-marks)) (now (a .owners)) (now (a .batch)) (now (a .tallies)) in
+    let m = lentTo S.fresh (a .caps .ids) (a .caps .slots) (now (a .id-marks)) (now (a .locations)) (now (a .slot-marks)) (now (a .owners)) (now (a .batch)) (now (a .tallies)) in
     let f = fresh-refused m (c .before .before .all-fit .ensures) (c .before .if1 .taken) in
-    (ap (λ r. refused (r .number) (r .index)) (c .of .ensures) ∙ f .0, f .1)
+    (ap refusedAs (c .of .ensures) ∙ f .0, f .1)
 
 all-requires : tie.Need-all-requires
 all-requires c κs = search
@@ -44,7 +45,7 @@ same-length-6 c = search
 returns-2 : tie.Need-returns-2
 returns-2 c =
     let a = c .before .before .before .before .before .before .before .before .before .before .before .before .before .before .before .before .before .before .before .before .before .before .before .before .before .before .before .args in
-    let m = memoryOf (a .caps .ids) (a .caps .slots) (now (a .id-marks)) (now (a .locations)) (now (a .slot-marks)) (now (a .owners)) (now (a .batch)) (now (a .tallies)) in
+    let m = lentTo S.fresh (a .caps .ids) (a .caps .slots) (now (a .id-marks)) (now (a .locations)) (now (a .slot-marks)) (now (a .owners)) (now (a .batch)) (now (a .tallies)) in
     fresh-granted m (c .before .before .before .before .before .before .before .before .before .before .before .before .before .before .before .before .before .before .before .before .all-fit .ensures) (c .before .before .before .before .before .before .before .before .before .before .before .before .before .before .before .before .before .before .before .if1 .left) (c .before .before .before .before .before .before .before .before .before .before .before .before .all .ensures)
 
 pub fresh-spec : {M : Type 1} → statement M

@@ -1,9 +1,10 @@
 -- `rebuild::rebuild` meets its contract: refused by the lengths or by the first wrong row, and then nothing is written; else every table is the rows and zeros. Assumes nothing.
 use mathlib.Core.Path.{ap, _∙_}
 use denote.Ref.{now}
-use Rattle.model.specs.Store.{refused}
-use Rattle.model.specs.Memory.{memoryOf}
-use Rattle.rebuild.proofs.Granted.{fits-not, fits-so, fits-rows, rebuild-wrong, rebuild-refused, rebuild-granted}
+use Rattle.refusal.specs.Outcomes.{refusedAs}
+use Rattle.model.specs.Store as S
+use Rattle.model.specs.Lent.{lentTo}
+use Rattle.rebuild.proofs.Granted.{fit-not, fit-so, fit-rows, rebuild-wrong, rebuild-refused, rebuild-granted}
 use Rattle.rebuild.proofs.rebuild.Statement.{statement}
 use Rattle.rebuild.proofs.rebuild.Tie as tie
 
@@ -21,9 +22,9 @@ returns c =
     let a = c .before .before .before .before .before .before .before .before .before .before .before .before .args in
     let is = now (a .ids) in
     let ls = now (a .row-locations) in
-    let m = memoryOf (a .caps .ids) (a .caps .slots) (now (a .id-marks)) (now (a .locations)) (now (a .slot-marks)) (now (a .owners)) (now (a .batch)) (now (a .tallies)) in
-    let g = rebuild-wrong m is ls (fits-not m is ls (c .before .before .before .all-fit .ensures) (c .before .before .both .ensures) (c .before .if1 .taken)) in
-    (ap (λ r. refused (r .number) (r .index)) (c .of .ensures) ∙ g .0, g .1)
+    let m = lentTo (S.rebuild (record { ids = is; locations = ls })) (a .caps .ids) (a .caps .slots) (now (a .id-marks)) (now (a .locations)) (now (a .slot-marks)) (now (a .owners)) (now (a .batch)) (now (a .tallies)) in
+    let g = rebuild-wrong m is ls (fit-not m is ls (c .before .before .before .all-fit .ensures) (c .before .before .both .ensures) (c .before .if1 .taken)) in
+    (ap refusedAs (c .of .ensures) ∙ g .0, g .1)
 
 first-refused-requires : tie.Need-first-refused-requires
 first-refused-requires c κs = search
@@ -36,18 +37,18 @@ returns-2 c =
     let a = c .before .before .before .before .before .before .before .before .before .before .before .before .before .before .before .args in
     let is = now (a .ids) in
     let ls = now (a .row-locations) in
-    let m = memoryOf (a .caps .ids) (a .caps .slots) (now (a .id-marks)) (now (a .locations)) (now (a .slot-marks)) (now (a .owners)) (now (a .batch)) (now (a .tallies)) in
-    let g = rebuild-refused m is ls (fits-so m is ls (c .before .before .before .before .before .before .all-fit .ensures) (c .before .before .before .before .before .both .ensures) (c .before .before .before .before .if1 .left)) _ (c .before .before .before .first-refused .ensures) (c .before .if2 .taken) in
-    (ap (λ r. refused (r .number) (r .index)) (c .at .ensures) ∙ g .0, g .1)
+    let m = lentTo (S.rebuild (record { ids = is; locations = ls })) (a .caps .ids) (a .caps .slots) (now (a .id-marks)) (now (a .locations)) (now (a .slot-marks)) (now (a .owners)) (now (a .batch)) (now (a .tallies)) in
+    let g = rebuild-refused m is ls (fit-so m is ls (c .before .before .before .before .before .before .all-fit .ensures) (c .before .before .before .before .before .both .ensures) (c .before .before .before .before .if1 .left)) _ (c .before .before .before .first-refused .ensures) (c .before .if2 .taken) in
+    (ap refusedAs (c .at .ensures) ∙ g .0, g .1)
 
 write-requires : tie.Need-write-requires
 write-requires c κs =
     let a = c .before .before .before .before .before .before .before .before .before .before .before .before .before .before .before .before .before .before .before .before .args in
     let is = now (a .ids) in
     let ls = now (a .row-locations) in
-    let m = memoryOf (a .caps .ids) (a .caps .slots) (now (a .id-marks)) (now (a .locations)) (now (a .slot-marks)) (now (a .owners)) (now (a .batch)) (now (a .tallies)) in
-    let r = fits-rows m is ls (fits-so m is ls (c .before .before .before .before .before .before .before .before .before .before .before .all-fit .ensures) (c .before .before .before .before .before .before .before .before .before .before .both .ensures) (c .before .before .before .before .before .before .before .before .before .if1 .left)) in
-    (r .good, r .long)
+    let m = lentTo (S.rebuild (record { ids = is; locations = ls })) (a .caps .ids) (a .caps .slots) (now (a .id-marks)) (now (a .locations)) (now (a .slot-marks)) (now (a .owners)) (now (a .batch)) (now (a .tallies)) in
+    let r = fit-rows m is ls (fit-so m is ls (c .before .before .before .before .before .before .before .before .before .before .before .all-fit .ensures) (c .before .before .before .before .before .before .before .before .before .before .both .ensures) (c .before .before .before .before .before .before .before .before .before .if1 .left)) in
+    (r .good, r .long-is)
 
 same-length : tie.Need-same-length
 same-length c = search
@@ -72,8 +73,8 @@ returns-3 c =
     let a = c .before .before .before .before .before .before .before .before .before .before .before .before .before .before .before .before .before .before .before .before .before .before .before .before .before .before .before .before .before .before .before .before .before .args in
     let is = now (a .ids) in
     let ls = now (a .row-locations) in
-    let m = memoryOf (a .caps .ids) (a .caps .slots) (now (a .id-marks)) (now (a .locations)) (now (a .slot-marks)) (now (a .owners)) (now (a .batch)) (now (a .tallies)) in
-    rebuild-granted m is ls (fits-so m is ls (c .before .before .before .before .before .before .before .before .before .before .before .before .before .before .before .before .before .before .before .before .before .before .before .before .all-fit .ensures) (c .before .before .before .before .before .before .before .before .before .before .before .before .before .before .before .before .before .before .before .before .before .before .before .both .ensures) (c .before .before .before .before .before .before .before .before .before .before .before .before .before .before .before .before .before .before .before .before .before .before .if1 .left)) _ (c .before .before .before .before .before .before .before .before .before .before .before .before .before .before .before .before .before .before .before .before .before .first-refused .ensures) (c .before .before .before .before .before .before .before .before .before .before .before .before .before .before .before .before .before .before .before .if2 .left) (c .before .before .before .before .before .before .before .before .before .before .before .before .write .ensures)
+    let m = lentTo (S.rebuild (record { ids = is; locations = ls })) (a .caps .ids) (a .caps .slots) (now (a .id-marks)) (now (a .locations)) (now (a .slot-marks)) (now (a .owners)) (now (a .batch)) (now (a .tallies)) in
+    rebuild-granted m is ls (fit-so m is ls (c .before .before .before .before .before .before .before .before .before .before .before .before .before .before .before .before .before .before .before .before .before .before .before .before .all-fit .ensures) (c .before .before .before .before .before .before .before .before .before .before .before .before .before .before .before .before .before .before .before .before .before .before .before .both .ensures) (c .before .before .before .before .before .before .before .before .before .before .before .before .before .before .before .before .before .before .before .before .before .before .if1 .left)) _ (c .before .before .before .before .before .before .before .before .before .before .before .before .before .before .before .before .before .before .before .before .before .first-refused .ensures) (c .before .before .before .before .before .before .before .before .before .before .before .before .before .before .before .before .before .before .before .if2 .left) (c .before .before .before .before .before .before .before .before .before .before .before .before .write .ensures)
 
 pub rebuild-spec : {M : Type 1} → statement M
 rebuild-spec =

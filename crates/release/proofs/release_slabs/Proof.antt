@@ -13,10 +13,10 @@ use Rattle.release.proofs.release_slabs.Statement.{statement}
 use Rattle.release.proofs.release_slabs.Tie as tie
 
 abbrev Inv-loop : tie.InvT-loop
-Inv-loop slots slot-marks₀ tallies₀ slab₀ start₀ slot-marks tallies slab start = (slab ≤ 78) × (start ≡ slab * slots) × (length slot-marks ≡ length slot-marks₀) × (length tallies ≡ length tallies₀) × (releaseSlabs slots (slabs - slab) slab (record { marks = slot-marks; words = tallies }) ≡ releaseSlabs slots slabs 0 (record { marks = slot-marks₀; words = tallies₀ }))
+Inv-loop slots slot-marks₀ tallies₀ slab₀ start₀ slot-marks tallies slab start = (slab ≤ slabs) × (start ≡ slab * slots) × (length slot-marks ≡ length slot-marks₀) × (length tallies ≡ length tallies₀) × (releaseSlabs slots (slabs - slab) slab (record { marks = slot-marks; words = tallies }) ≡ releaseSlabs slots slabs 0 (record { marks = slot-marks₀; words = tallies₀ }))
 
 abbrev μ-loop : tie.MeasureT-loop
-μ-loop slots slot-marks₀ tallies₀ slab₀ start₀ slot-marks tallies slab start = 78 - slab
+μ-loop slots slot-marks₀ tallies₀ slab₀ start₀ slot-marks tallies slab start = slabs - slab
 
 loop-holds : tie.Need-loop-holds Inv-loop μ-loop
 loop-holds c = (search needs, search needs, search needs, search needs, refl)

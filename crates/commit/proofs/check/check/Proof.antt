@@ -2,8 +2,10 @@
 -- Assumes nothing.
 use mathlib.Core.Path.{sym, _∙_}
 use borrow.Author.Tests.{not-true, not-false}
-use Rattle.model.specs.Memory.{memoryOf}
-use Rattle.commit.proofs.Laws.{commit-shape, commit-count, commit-refused}
+use Rattle.model.specs.Store as S
+use Rattle.model.proofs.Granted.{refused-shape}
+use Rattle.model.specs.Lent.{lentTo}
+use Rattle.commit.proofs.Laws.{commit-count, commit-refused}
 use Rattle.commit.proofs.check.check.Statement.{statement}
 use Rattle.commit.proofs.check.check.Tie as tie
 
@@ -16,8 +18,8 @@ of-requires c κs = search
 returns : tie.Need-returns
 returns c =
     let a = c .before .before .before .before .before .before .before .before .before .args in
-    let m = memoryOf (a .caps .ids) (a .caps .slots) (a .id-marks .now) (a .locations .now) (a .slot-marks .now) (a .owners .now) (a .batch .now) (a .tallies .now) in
-    simp (c .of .ensures, commit-shape m (sym (c .before .before .all-fit .ensures) ∙ not-true _ (c .before .if1 .taken)))
+    let m = lentTo S.commit (a .caps .ids) (a .caps .slots) (a .id-marks .now) (a .locations .now) (a .slot-marks .now) (a .owners .now) (a .batch .now) (a .tallies .now) in
+    simp (c .of .ensures, refused-shape m S.commit (sym (c .before .before .all-fit .ensures) ∙ not-true _ (c .before .if1 .taken)))
 
 opened-requires : tie.Need-opened-requires
 opened-requires c κs = search
@@ -34,13 +36,13 @@ enum-known-refusal c = search
 returns-2 : tie.Need-returns-2
 returns-2 c =
     let a = c .before .before .before .before .before .before .before .before .before .before .before .before .before .args in
-    let m = memoryOf (a .caps .ids) (a .caps .slots) (a .id-marks .now) (a .locations .now) (a .slot-marks .now) (a .owners .now) (a .batch .now) (a .tallies .now) in
+    let m = lentTo S.commit (a .caps .ids) (a .caps .slots) (a .id-marks .now) (a .locations .now) (a .slot-marks .now) (a .owners .now) (a .batch .now) (a .tallies .now) in
     c .check-rows .ensures ∙ commit-count m (sym (c .before .before .before .before .before .before .all-fit .ensures) ∙ not-false _ (c .before .before .before .before .before .if1 .left)) _ (sym (c .before .before .before .before .opened .ensures) ∙ c .before .before .n .given .1)
 
 returns-3 : tie.Need-returns-3
 returns-3 c =
     let a = c .before .before .before .before .before .before .before .before .before .before .before .before .args in
-    let m = memoryOf (a .caps .ids) (a .caps .slots) (a .id-marks .now) (a .locations .now) (a .slot-marks .now) (a .owners .now) (a .batch .now) (a .tallies .now) in
+    let m = lentTo S.commit (a .caps .ids) (a .caps .slots) (a .id-marks .now) (a .locations .now) (a .slot-marks .now) (a .owners .now) (a .batch .now) (a .tallies .now) in
     commit-refused m (sym (c .before .before .before .before .before .all-fit .ensures) ∙ not-false _ (c .before .before .before .before .if1 .left)) _ _ (sym (c .before .before .before .opened .ensures) ∙ c .before .refusal .given .1)
 
 pub check-spec : {M : Type 1} → statement M

@@ -1,80 +1,54 @@
--- The first row that cannot be committed. The invariant: the first bad row from row i on is the first bad row of all; what is left of n
--- falls. Assumes nothing.
-use mathlib.Core.Path.{_≡_, _∙_}
-use native.Mathlib.Omega.{arith}
-use mathlib.Core.Bool.{true, false}
-use Prim.Native.Nat.{_-_, _≤_}
-use native.Mathlib.Nat.{sub-zero}
-use Rattle.batch_kept.specs.Kept.{firstBad, keptFrom}
-use Rattle.batch_kept.proofs.Laws.{row-read, firstBad-here, firstBad-next, firstBad-none}
-use Rattle.commit.specs.Commit.{rowBad}
+-- The first row that cannot be committed: of the rows before the first one out of range the first whose id's present location cannot be its
+-- own, and where there is none that one (firstBad-either). Assumes nothing.
+use borrow.Author.Tests.{lt-ltb, le-ltb}
+use Rattle.model.specs.Verdict.{test}
+use Rattle.batch_kept.specs.Kept.{badKeptRow}
+use Rattle.batch_kept.proofs.Laws.{firstBad-either}
+use Rattle.commit.specs.Commit.{notOwn}
 use Rattle.commit.proofs.check.check_rows.Statement.{statement}
 use Rattle.commit.proofs.check.check_rows.Tie as tie
 
-abbrev Inv-loop : tie.InvT-loop
-Inv-loop caps locations slot-marks owners batch tallies n i₀ i =
-    (i ≤ n)
-    × (firstBad (rowBad (caps .ids) (caps .slots) locations slot-marks owners tallies) 0 (keptFrom batch n 0)
-    ≡ firstBad (rowBad (caps .ids) (caps .slots) locations slot-marks owners tallies) i (keptFrom batch (n - i) i))
+in-range-requires : tie.Need-in-range-requires
+in-range-requires c κs = search
 
-abbrev μ-loop : tie.MeasureT-loop
-μ-loop caps locations slot-marks owners batch tallies n i₀ i = n - i
+rows-before-requires : tie.Need-rows-before-requires
+rows-before-requires c κs = search
 
-loop-holds : tie.Need-loop-holds Inv-loop μ-loop
-loop-holds c = (omega arith, rw sub-zero)
+own-rows-requires : tie.Need-own-rows-requires
+own-rows-requires c κs = search
 
-get-requires : tie.Need-get-requires Inv-loop μ-loop
-get-requires c κs = search
+rows-before-requires-2 : tie.Need-rows-before-requires-2
+rows-before-requires-2 c κs = search
 
-get-requires-2 : tie.Need-get-requires-2 Inv-loop μ-loop
-get-requires-2 c κs = search
-
-bad-update-requires : tie.Need-bad-update-requires Inv-loop μ-loop
-bad-update-requires c κs = search
-
-at-requires : tie.Need-at-requires Inv-loop μ-loop
+at-requires : tie.Need-at-requires
 at-requires c κs = search
 
-returns : tie.Need-returns Inv-loop μ-loop
+returns : tie.Need-returns
+unfolding test
 returns c =
-    let a = c .before .before .before .before .before .before .before .before .before .before .before .before .args in
-    let i = c .before .before .before .before .before .before .loop .i in
-    let f = rowBad (a .caps .ids) (a .caps .slots) (a .locations .now) (a .slot-marks .now) (a .owners .now) (a .tallies .now) in
-    let bad = row-read f _ _ _ _ _ true (c .before .before .before .before .get .ensures) (c .before .before .before .get2 .ensures) (c .before .before .bad-update .ensures) (c .before .if1 .taken) in
-    simp (c .at .ensures, c .before .before .before .before .before .before .loop .inv .1, firstBad-here f (a .batch .now) (a .n) i (c .before .before .before .before .before .loop-test .taken) bad)
-
-add-i : tie.Need-add-i Inv-loop μ-loop
-add-i c = omega arith
-
-loop-less : tie.Need-loop-less Inv-loop μ-loop
-loop-less c = omega arith
-
-loop-again : tie.Need-loop-again Inv-loop μ-loop
-loop-again c =
     let a = c .before .before .before .before .before .before .before .before .before .before .before .args in
-    let i = c .before .before .before .before .before .loop .i in
-    let f = rowBad (a .caps .ids) (a .caps .slots) (a .locations .now) (a .slot-marks .now) (a .owners .now) (a .tallies .now) in
-    let good = row-read f _ _ _ _ _ false (c .before .before .before .get .ensures) (c .before .before .get2 .ensures) (c .before .bad-update .ensures) (c .if1 .left) in
-    (omega arith, c .before .before .before .before .before .loop .inv .1 ∙ firstBad-next f (a .batch .now) (a .n) i (c .before .before .before .before .loop-test .taken) good)
+    let p = badKeptRow (a .caps .ids) (a .caps .slots) in
+    let q = notOwn (a .caps .slots) (a .locations .now) (a .slot-marks .now) (a .owners .now) (a .tallies .now) in
+    let either = firstBad-either p q (a .batch .now) (a .n) _ _ _ _ (c .before .before .before .before .before .in-range .ensures) (c .before .before .before .before .rows-before .ensures) (c .before .before .before .own-rows .ensures) (c .before .before .rows-before2 .ensures) in
+    simp (c .at .ensures, either, lt-ltb _ _ (c .before .if1 .taken))
 
-returns-2 : tie.Need-returns-2 Inv-loop μ-loop
+returns-2 : tie.Need-returns-2
+unfolding test
 returns-2 c =
-    let a = c .before .before .before .before .before .before .before .args in
-    simp (c .before .loop .inv .1, firstBad-none (rowBad (a .caps .ids) (a .caps .slots) (a .locations .now) (a .slot-marks .now) (a .owners .now) (a .tallies .now)) (a .batch .now) (a .n) (c .before .loop .i) (c .loop-test .left))
+    let a = c .before .before .before .before .before .before .before .before .before .before .args in
+    let p = badKeptRow (a .caps .ids) (a .caps .slots) in
+    let q = notOwn (a .caps .slots) (a .locations .now) (a .slot-marks .now) (a .owners .now) (a .tallies .now) in
+    let either = firstBad-either p q (a .batch .now) (a .n) _ _ _ _ (c .before .before .before .before .in-range .ensures) (c .before .before .before .rows-before .ensures) (c .before .before .own-rows .ensures) (c .before .rows-before2 .ensures) in
+    simp (either, le-ltb _ _ (c .if1 .left))
 
 pub check-rows-spec : {M : Type 1} → statement M
 check-rows-spec =
     tie.close
     (tie.spec
-    Inv-loop
-    μ-loop
-    loop-holds
-    get-requires
-    get-requires-2
-    bad-update-requires
+    in-range-requires
+    rows-before-requires
+    own-rows-requires
+    rows-before-requires-2
     at-requires
     returns
-    add-i
-    loop-less
-    loop-again
     returns-2)

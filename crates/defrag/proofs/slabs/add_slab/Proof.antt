@@ -5,8 +5,8 @@ use mathlib.Core.Path.{ap, _∙_}
 use denote.Ref.{now}
 use lib.ListN.{length, length-take}
 use lib.Seq.{sets}
+use Rattle.address.specs.Address.{locationIn}
 use Rattle.model.specs.Tables.{idsOf, locationsOf}
-use Rattle.defrag.specs.Listed.{locationIn}
 use Rattle.defrag.proofs.Spans.{below, near, first-is, slab-is}
 use borrow.Author.Needs.{needs}
 use Rattle.defrag.proofs.slabs.add_slab.Statement.{statement}

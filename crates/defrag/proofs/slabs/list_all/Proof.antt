@@ -6,6 +6,7 @@ use lib.Seq.{sets, length-sets}
 use native.Mathlib.Omega.{arith}
 use denote.Ref.{now}
 use borrow.Author.Needs.{needs}
+use Rattle.address.specs.Address.{slabs, mostSlots}
 use Rattle.model.specs.Tables.{idsOf, locationsOf}
 use Rattle.defrag.specs.Listed.{slabRows, listedFrom}
 use Rattle.defrag.proofs.Written.{next-count, next-ids, next-locations}
@@ -15,14 +16,14 @@ use Rattle.defrag.proofs.slabs.list_all.Tie as tie
 
 abbrev Inv-loop : tie.InvT-loop
 Inv-loop slots locations slot-marks owners tallies r moved-ids₀ moved-locations₀ n₀ slab₀ moved-ids moved-locations n slab =
-    (slab ≤ 78) × (n ≤ slab * 65536)
+    (slab ≤ slabs) × (n ≤ slab * mostSlots)
     × (length moved-ids ≡ length moved-ids₀) × (length moved-locations ≡ length moved-locations₀)
-    × (n + length (listedFrom slots locations slot-marks owners tallies r (78 - slab) slab) ≡ length (listedFrom slots locations slot-marks owners tallies r 78 0))
-    × (sets moved-ids n (idsOf (listedFrom slots locations slot-marks owners tallies r (78 - slab) slab)) ≡ sets moved-ids₀ 0 (idsOf (listedFrom slots locations slot-marks owners tallies r 78 0)))
-    × (sets moved-locations n (locationsOf (listedFrom slots locations slot-marks owners tallies r (78 - slab) slab)) ≡ sets moved-locations₀ 0 (locationsOf (listedFrom slots locations slot-marks owners tallies r 78 0)))
+    × (n + length (listedFrom slots locations slot-marks owners tallies r (slabs - slab) slab) ≡ length (listedFrom slots locations slot-marks owners tallies r slabs 0))
+    × (sets moved-ids n (idsOf (listedFrom slots locations slot-marks owners tallies r (slabs - slab) slab)) ≡ sets moved-ids₀ 0 (idsOf (listedFrom slots locations slot-marks owners tallies r slabs 0)))
+    × (sets moved-locations n (locationsOf (listedFrom slots locations slot-marks owners tallies r (slabs - slab) slab)) ≡ sets moved-locations₀ 0 (locationsOf (listedFrom slots locations slot-marks owners tallies r slabs 0)))
 
 abbrev μ-loop : tie.MeasureT-loop
-μ-loop slots locations slot-marks owners tallies r moved-ids₀ moved-locations₀ n₀ slab₀ moved-ids moved-locations n slab = 78 - slab
+μ-loop slots locations slot-marks owners tallies r moved-ids₀ moved-locations₀ n₀ slab₀ moved-ids moved-locations n slab = slabs - slab
 
 loop-holds : tie.Need-loop-holds Inv-loop μ-loop
 loop-holds c = search needs
@@ -42,7 +43,7 @@ loop-again c =
     let p = c .before .before .before .before .before .before .before .before .before .before .before .before .before .before .before .pre in
     let b = c .before .before .before .before .before .before .before .before .loop in
     let row = slabRows (a .slots) (now (a .locations)) (now (a .slot-marks)) (now (a .owners)) (now (a .tallies)) (a .r) (b .slab) in
-    let rest = listedFrom (a .slots) (now (a .locations)) (now (a .slot-marks)) (now (a .owners)) (now (a .tallies)) (a .r) (78 - (b .slab + 1)) (b .slab + 1) in
+    let rest = listedFrom (a .slots) (now (a .locations)) (now (a .slot-marks)) (now (a .owners)) (now (a .tallies)) (a .r) (slabs - (b .slab + 1)) (b .slab + 1) in
     let split = listedFrom-turn (a .slots) (now (a .locations)) (now (a .slot-marks)) (now (a .owners)) (now (a .tallies)) (a .r) (b .slab) (omega arith) in
     let few = slabRows-le (a .slots) (now (a .locations)) (now (a .slot-marks)) (now (a .owners)) (now (a .tallies)) (a .r) (b .slab) (p .0) (p .1) (omega arith) (p .2) in
     let e = c .before .before .before .before .add-slab .ensures in (

@@ -2,9 +2,11 @@
 use native.Mathlib.Omega.{arith}
 use mathlib.Core.Path.{ap, _∙_}
 use denote.Ref.{now}
+use Rattle.list_parts.proofs.Parts.{part-end}
+use Rattle.address.specs.Address.{slabs}
 use Rattle.marks.specs.Marks.{isTaken, countIf, tip}
 use Rattle.defrag.specs.Listed.{startOf}
-use Rattle.defrag.proofs.Spans.{inside, below, marks-are, used-is, span-is}
+use Rattle.defrag.proofs.Spans.{below, marks-are, used-is, span-is}
 use borrow.Author.Needs.{needs}
 use Rattle.defrag.proofs.slabs.looked_at.Statement.{statement}
 use Rattle.defrag.proofs.slabs.looked_at.Tie as tie
@@ -34,7 +36,7 @@ part-live-start : tie.Need-part-live-start
 part-live-start c = search needs
 
 part-live-end : tie.Need-part-live-end
-part-live-end c = let a = c .before .before .before .before .args in let h = inside (a .slots) (a .slab) (c .before .before .before .before .pre .0) in search needs
+part-live-end c = let a = c .before .before .before .before .args in let h = part-end (a .slots) slabs (a .slab) (c .before .before .before .before .pre .0) in search needs
 
 live-requires : tie.Need-live-requires
 live-requires c κs = search needs
@@ -46,7 +48,7 @@ part-tip-start : tie.Need-part-tip-start
 part-tip-start c = search needs
 
 part-tip-end : tie.Need-part-tip-end
-part-tip-end c = let a = c .before .before .before .before .before .before .args in let h = inside (a .slots) (a .slab) (c .before .before .before .before .before .before .pre .0) in search needs
+part-tip-end c = let a = c .before .before .before .before .before .before .args in let h = part-end (a .slots) slabs (a .slab) (c .before .before .before .before .before .before .pre .0) in search needs
 
 tip-requires : tie.Need-tip-requires
 tip-requires c κs = search needs

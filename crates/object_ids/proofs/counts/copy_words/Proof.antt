@@ -1,19 +1,20 @@
 -- `object_ids::copy_words` meets its contract. The loop's invariant: the rows up to `i` are the words up to `i` (copy-turn). The measure is
--- what is left of the 79. Assumes nothing.
+-- the allocators that are left. Assumes nothing.
 use mathlib.Core.Path.{_≡_, refl}
 use Prim.Native.Nat.{_-_, _≤_}
 use native.Mathlib.Omega.{arith}
 use lib.ListN.{length, take}
 use borrow.Author.Needs.{needs}
+use Rattle.model.specs.Tables.{allocators}
 use Rattle.object_ids.proofs.LawsCounts.{words, copy-turn, copy-end}
 use Rattle.object_ids.proofs.counts.copy_words.Statement.{statement}
 use Rattle.object_ids.proofs.counts.copy_words.Tie as tie
 
 abbrev Inv-loop : tie.InvT-loop
-Inv-loop tallies base out₀ i₀ out i = (i ≤ 79) × (length out ≡ length out₀) × (take i out ≡ take i (words tallies base))
+Inv-loop tallies base out₀ i₀ out i = (i ≤ allocators) × (length out ≡ length out₀) × (take i out ≡ take i (words tallies base))
 
 abbrev μ-loop : tie.MeasureT-loop
-μ-loop tallies base out₀ i₀ out i = 79 - i
+μ-loop tallies base out₀ i₀ out i = allocators - i
 
 loop-holds : tie.Need-loop-holds Inv-loop μ-loop
 loop-holds c = (search needs, search needs, refl)

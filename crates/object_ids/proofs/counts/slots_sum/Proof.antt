@@ -5,13 +5,14 @@ use Prim.Native.Nat.{_+_, _-_, _%_, _^_, _≤_}
 use native.Mathlib.Omega.{arith}
 use lib.ListN.{drop}
 use borrow.Author.Needs.{needs}
+use Rattle.model.specs.Tables.{allocators}
 use Rattle.model.specs.Ids.{sum}
 use Rattle.object_ids.proofs.LawsCounts.{words, sum-end, sum-turn}
 use Rattle.object_ids.proofs.counts.slots_sum.Statement.{statement}
 use Rattle.object_ids.proofs.counts.slots_sum.Tie as tie
 
 abbrev Inv-loop : tie.InvT-loop
-Inv-loop tallies base total₀ i₀ total i = (1 ≤ i) × (i ≤ 79) × (total ≡ sum (drop i (words tallies base)))
+Inv-loop tallies base total₀ i₀ total i = (1 ≤ i) × (i ≤ allocators) × (total ≡ sum (drop i (words tallies base)))
 
 abbrev μ-loop : tie.MeasureT-loop
 μ-loop tallies base total₀ i₀ total i = i

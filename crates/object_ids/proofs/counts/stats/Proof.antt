@@ -3,7 +3,7 @@ use mathlib.Core.Path.{sym, _∙_}
 use native.Mathlib.Omega.{arith}
 use borrow.Author.Tests.{not-true, not-false}
 use Rattle.model.specs.Verdict.{test}
-use Rattle.object_ids.proofs.LawsCounts.{counters-answer, talliesFits-length}
+use Rattle.object_ids.proofs.LawsCounts.{counters-answer, tallies-long}
 use Rattle.object_ids.proofs.counts.stats.Statement.{statement}
 use Rattle.object_ids.proofs.counts.stats.Tie as tie
 
@@ -24,10 +24,10 @@ get-requires-2 : tie.Need-get-requires-2
 get-requires-2 c κs = search
 
 slots-sum-requires : tie.Need-slots-sum-requires
-slots-sum-requires c κs = let l = talliesFits-length _ _ _ (sym (c .before .before .before .tallies-fit .ensures) ∙ not-false _ (c .before .before .if1 .left)) in omega arith
+slots-sum-requires c κs = let l = tallies-long _ _ _ (sym (c .before .before .before .tallies-fit .ensures) ∙ not-false _ (c .before .before .if1 .left)) in omega arith
 
 slots-sum-requires-2 : tie.Need-slots-sum-requires-2
-slots-sum-requires-2 c κs = let l = talliesFits-length _ _ _ (sym (c .before .before .before .before .tallies-fit .ensures) ∙ not-false _ (c .before .before .before .if1 .left)) in omega arith
+slots-sum-requires-2 c κs = let l = tallies-long _ _ _ (sym (c .before .before .before .before .tallies-fit .ensures) ∙ not-false _ (c .before .before .before .if1 .left)) in omega arith
 
 returns-2 : tie.Need-returns-2
 unfolding test

@@ -2,7 +2,9 @@
 -- or writes nothing (refused-after). Assumes nothing.
 use mathlib.Core.Path.{refl, sym, ap, _∙_}
 use Rattle.model.proofs.Answered.{refused-after}
-use Rattle.object_ids.specs.NewIds.{newIdMemory, newIdAnswer}
+use Rattle.model.specs.Store.{newId}
+use Rattle.model.specs.Lent.{lentTo}
+use Rattle.object_ids.specs.NewIds.{newIdAnswer}
 use Rattle.object_ids.proofs.LawsNewId.{newId-granted}
 use Rattle.object_ids.proofs.new_id.allocate_object_id.Statement.{statement}
 use Rattle.object_ids.proofs.new_id.allocate_object_id.Tie as tie
@@ -32,7 +34,7 @@ returns c =
     let a = c .before .before .before .before .before .before .before .before .before .before .before .before .before .before .before .before .args in
     let e = sym (ap newIdAnswer (c .before .before .before .before .before .before .before .before .id .given .1)) ∙ c .before .before .before .before .before .before .before .before .before .before .next-id .ensures in
     let q = newId-granted _ _ e in
-    (e, (λ i. newIdMemory (a .caps) (c .before .before .before .before .hold-id .ensures .0 i) (a .batch .now) (c .before .before .before .before .hold-id .ensures .1 i)) ∙ sym (q .after))
+    (e, (λ i. lentTo newId (a .caps .ids) (a .caps .slots) (c .before .before .before .before .hold-id .ensures .0 i) (a .batch .now) (c .before .before .before .before .hold-id .ensures .1 i)) ∙ sym (q .after))
 
 same-length-3 : tie.Need-same-length-3
 same-length-3 c = search

@@ -7,7 +7,7 @@ use lib.ListN.{set}
 use denote.Ref.{now}
 use Rattle.address.specs.Address.{unit}
 use Rattle.model.specs.Memory.{putWord, usedWords}
-use Rattle.model.proofs.Tables.{write-set, write-none}
+use Rattle.model.proofs.Writes.{write-set, write-none}
 use Rattle.tables.proofs.LawsEntries.{else-is}
 use Rattle.rebuild_rows.specs.Checks.{isAt}
 use Rattle.rebuild_rows.proofs.Turns.{isAt-unpacked}

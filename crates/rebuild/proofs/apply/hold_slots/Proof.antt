@@ -8,7 +8,7 @@ use borrow.Author.Needs.{needs}
 use Rattle.model.specs.Tables.{writeAll, locationsOf}
 use Rattle.model.specs.Rebuild.{rowsOf, ownedBy}
 use Rattle.model.specs.MemoryAfter.{useSlots}
-use Rattle.model.proofs.Tables.{length-write}
+use Rattle.model.proofs.Writes.{length-write}
 use Rattle.rebuild_rows.proofs.Turns.{rest, rest-turn, rest-end}
 use Rattle.rebuild.proofs.Places.{length-used}
 use Rattle.rebuild.proofs.apply.hold_slots.Statement.{statement}

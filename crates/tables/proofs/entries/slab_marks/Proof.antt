@@ -5,7 +5,7 @@ use Prim.Native.Nat.{ℕ, _+_, _-_, _*_, _≤_}
 use lib.ListN.{length, take, drop, length-drop, drop-of-length-le}
 use lib.Seq.{take-all, take-nil}
 use borrow.Author.Tests.{lt-ltb, le-ltb}
-use Rattle.list_parts.proofs.Parts.{rest-part}
+use Rattle.list_parts.proofs.Ranges.{rest-part}
 use Rattle.tables.proofs.LawsEntries.{slabPart-none, slabPart-is, start-lt, end-part}
 use borrow.Author.Needs.{needs}
 use Rattle.tables.proofs.entries.slab_marks.Statement.{statement}

@@ -1,7 +1,6 @@
-use mathlib.Core.Bool.{and-assoc}
-use mathlib.Core.Path.{_∙_}
-use Rattle.tables.specs.Shapes.{defragFits}
-use Rattle.tables.proofs.Lengths.{and-once}
+-- `tables::defrag_fits` meets its contract: under good capacities each test is that of its table's length (fit-by). Assumes nothing.
+use mathlib.Core.Path.{refl, _∙_}
+use Rattle.tables.proofs.Laws.{under, fit-by}
 use borrow.Author.Needs.{needs}
 use Rattle.tables.proofs.shapes.defrag_fits.Statement.{statement}
 use Rattle.tables.proofs.shapes.defrag_fits.Tie as tie
@@ -15,33 +14,13 @@ slots-fit-requires c κs = search needs
 slots-fit-requires-2 : tie.Need-slots-fit-requires-2
 slots-fit-requires-2 c κs = search needs
 
-both-requires : tie.Need-both-requires
-both-requires c κs = search needs
-
-both-requires-2 : tie.Need-both-requires-2
-both-requires-2 c κs = search needs
-
-batch-and-tallies-requires : tie.Need-batch-and-tallies-requires
-batch-and-tallies-requires c κs = search needs
-
-both-requires-3 : tie.Need-both-requires-3
-both-requires-3 c κs = search needs
+all-hold-requires : tie.Need-all-hold-requires
+all-hold-requires c κs = search needs
 
 returns : tie.Need-returns
-unfolding defragFits
-returns c =
-    c .both3 .ensures
-    ∙ simp (c .before .before .both2 .ensures, c .before .before .before .both .ensures, c .before .before .before .before .before .before .ids-fit .ensures, c .before .before .before .before .before .slots-fit .ensures, c .before .before .before .before .slots-fit2 .ensures, c .before .batch-and-tallies .ensures, and-once, and-assoc)
+returns c = c .all-hold .ensures ∙ fit-by _ _ _ _ _ _ _ _ _ (λ h. refl) (under _ _ _ _ (c .before .before .before .ids-fit .ensures)) (under _ _ _ _ (c .before .before .slots-fit .ensures)) (under _ _ _ _ (c .before .slots-fit2 .ensures)) (λ h. refl) (λ h. refl)
 
 pub defrag-fits-spec : {M : Type 1} → statement M
 defrag-fits-spec =
     tie.close
-    (tie.spec
-    ids-fit-requires
-    slots-fit-requires
-    slots-fit-requires-2
-    both-requires
-    both-requires-2
-    batch-and-tallies-requires
-    both-requires-3
-    returns)
+    (tie.spec ids-fit-requires slots-fit-requires slots-fit-requires-2 all-hold-requires returns)

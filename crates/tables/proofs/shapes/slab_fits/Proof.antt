@@ -1,6 +1,6 @@
-use mathlib.Core.Bool.{and-assoc}
-use mathlib.Core.Path.{_∙_}
-use Rattle.tables.specs.Shapes.{slabFits}
+-- `tables::slab_fits` meets its contract: under good capacities each test is that of its table's length (fit-by). Assumes nothing.
+use mathlib.Core.Path.{refl, _∙_}
+use Rattle.tables.proofs.Laws.{under, fit-by}
 use borrow.Author.Needs.{needs}
 use Rattle.tables.proofs.shapes.slab_fits.Statement.{statement}
 use Rattle.tables.proofs.shapes.slab_fits.Tie as tie
@@ -8,16 +8,11 @@ use Rattle.tables.proofs.shapes.slab_fits.Tie as tie
 slots-fit-requires : tie.Need-slots-fit-requires
 slots-fit-requires c κs = search needs
 
-batch-and-tallies-requires : tie.Need-batch-and-tallies-requires
-batch-and-tallies-requires c κs = search needs
-
-both-requires : tie.Need-both-requires
-both-requires c κs = search needs
+all-hold-requires : tie.Need-all-hold-requires
+all-hold-requires c κs = search needs
 
 returns : tie.Need-returns
-unfolding slabFits
-returns c = c .both .ensures ∙ simp (c .before .before .slots-fit .ensures, c .before .batch-and-tallies .ensures, and-assoc)
+returns c = c .all-hold .ensures ∙ fit-by _ _ _ _ _ _ _ _ _ (λ h. refl) (λ h. refl) (under _ _ _ _ (c .before .slots-fit .ensures)) (λ h. refl) (λ h. refl) (λ h. refl)
 
 pub slab-fits-spec : {M : Type 1} → statement M
-slab-fits-spec =
-    tie.close (tie.spec slots-fit-requires batch-and-tallies-requires both-requires returns)
+slab-fits-spec = tie.close (tie.spec slots-fit-requires all-hold-requires returns)

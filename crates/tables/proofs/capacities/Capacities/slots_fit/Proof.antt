@@ -1,7 +1,7 @@
 use mathlib.Core.Path.{sym, _∙_}
 use native.Mathlib.Omega.{arith}
 use borrow.Author.Tests.{not-true, not-false}
-use Rattle.tables.proofs.Laws.{capacities-range}
+use Rattle.model.proofs.Sizes.{capacities-range}
 use borrow.Author.Needs.{needs}
 use Rattle.tables.proofs.capacities.Capacities.slots_fit.Statement.{statement}
 use Rattle.tables.proofs.capacities.Capacities.slots_fit.Tie as tie
