@@ -2,28 +2,32 @@
 -- that, and there a refused row comes after rows whose ids are in range and differ: each is one more mark in a table of as many marks as
 -- there are ids. Assumes nothing.
 use mathlib.Core.Path.{_≡_, refl, _∙_}
-use mathlib.Core.Bool.{Bool, true, false, not, _&&_}
+use mathlib.Core.Bool.{Bool, true, false, not}
 use mathlib.Core.List.{List, [], _∷_}
 use Prim.Native.Nat.{ℕ, zero, suc, _+_, _*_, _<_, _≤_, pred}
 use native.Mathlib.Omega.{arith}
 use lib.Dec.{ltb}
 use lib.ListN.{length, length-replicate, length-set, getD, set, replicate}
 use lib.Seq.{getD-set-other}
-use borrow.Author.Tests.{ltb-true, ltb-false, not-true, not-false}
-use Rattle.refusal.proofs.Tests.{and-true, or-false}
+use borrow.Author.Tests.{ltb-true, ltb-false, not-false}
+use Rattle.refusal.proofs.Tests.{and-true}
+use Rattle.list_parts.specs.Lists.{elem}
+use Rattle.list_parts.proofs.Lists.{elem-not}
 use Rattle.address.specs.Address.{slabs}
 use Rattle.marks.specs.Marks.{isTaken, countIf}
 use Rattle.marks.proofs.LawsCount.{countIf-set, countIf-le}
-use Rattle.model.specs.Store.{Store, Update, Row, Call, newId, release, offer, commit, abandon, fresh, rebuild, lookup, counters, defrag, truncation, report, refused}
+use Rattle.model.specs.Store.{Store, Update, Row, Question, lookup, counters, defrag, Call, newId, release, offer, commit, abandon, fresh, rebuild, ask, truncation, report}
 use Rattle.model.specs.Verdict.{Verdict, ok, refuse, _⨾_, test}
-use Rattle.model.specs.Tables.{capacities, badIds, inIds, elem, kept, pairs}
-use Rattle.model.specs.Batches.{updatesOf, updates, room, commitRows, abandonRows}
-use Rattle.model.specs.Rebuild.{rowsOf, rows}
-use Rattle.model.specs.Step.{slabRefusal, refusal, answer}
+use Rattle.model.specs.Tables.{mostUpdates, mostOpened, inIds, kept, pairs}
+use Rattle.model.specs.Batches.{updatesOf, updatesIn, updates, room, commitRows, abandonRows}
+use Rattle.model.specs.Rebuild.{rowsIn, rows}
+use Rattle.model.specs.Step.{slabRefusal, refusalOf, refusal, answer}
+use Rattle.model.specs.Questions.{askRefusal}
+use Rattle.model.proofs.Granted.{shape-ok}
 use Rattle.model.proofs.Verdicts.{test-ok, then-ok}
-use Rattle.model.proofs.Tables.{elem-not, zeros}
+use Rattle.model.proofs.Lists.{zeros}
 use Rattle.exports_status.specs.Status.{statusOf}
-use Rattle.exports.specs.Answers.{outcomeOf}
+use Rattle.model.specs.Outcomes.{outcomeOf}
 use Rattle.exports.proofs.Laws.{status-exact}
 
 -- ---- a number below 256, an index below b
@@ -123,55 +127,54 @@ length-pairs (suc n) (i ∷ is) (l ∷ ls) = omega (arith, length-pairs n is ls)
 
 -- ---- every call
 
--- what a shape test that is passed tells of the capacities
-ids-most : (n m : ℕ) (fit : Bool) → test (not (capacities n m && fit)) 1 0 ≡ ok → n ≤ 65536
-unfolding badIds
-ids-most n m fit e =
-    let a = and-true (capacities n m) fit (not-false _ (test-ok _ 1 0 e)) in
-    let b = and-true (not (badIds n)) _ (a .0) in
-    ltb-false 65536 n (or-false (ltb n 2) (ltb 65536 n) (not-true _ (b .0)) .1)
-
-kept-most : (s : Store) → test (ltb 257 (s .batch .opened)) 13 0 ≡ ok → length (kept s) ≤ 256
-kept-most s e = omega (arith, ltb-false 257 (s .batch .opened) (test-ok _ 13 0 e), length-pairs (pred (s .batch .opened)) (s .batch .keptIds) (s .batch .keptLocations))
+kept-most : (s : Store) → test (ltb mostOpened (s .batch .opened)) 13 0 ≡ ok → length (kept s) ≤ mostUpdates
+kept-most s e = omega (arith, ltb-false mostOpened (s .batch .opened) (test-ok _ 13 0 e), length-pairs (pred (s .batch .opened)) (s .batch .keptIds) (s .batch .keptLocations))
 
 wider : (a b : ℕ) (v : Verdict) → a ≤ b → Small a v → Small b v
 wider a b v h k = small _ _ (k .number) (omega (arith, k .index))
 
 slab-small : (s : Store) (k t : ℕ) → Small 65537 (slabRefusal s k t)
 slab-small s k t =
+    small-first _ _ 11 _ (omega arith) (omega arith) (λ _.
+    small-first _ _ 3 _ (omega arith) (omega arith) (λ _. small-test _ _ 14 0 (omega arith) (omega arith)))
+
+-- the questions
+ask-small : (s : Store) (q : Question) → Small 65537 (askRefusal s q)
+unfolding askRefusal
+ask-small s (lookup i) = small-first _ _ 8 _ (omega arith) (omega arith) (λ _. small-test _ _ 13 0 (omega arith) (omega arith))
+ask-small s counters = small _ _ (omega arith) (omega arith)
+ask-small s (defrag r is ls) =
+    small-first _ _ 1 _ (omega arith) (omega arith) (λ _. small-first _ _ 11 _ (omega arith) (omega arith) (λ _. small-test _ _ 14 0 (omega arith) (omega arith)))
+
+-- the tests of a call whose tables fit
+rest-small : (s : Store) (c : Call) → s .ids ≤ 65536 → Small 65537 (refusalOf s c)
+unfolding refusalOf
+rest-small s newId ids = small-first _ _ 11 _ (omega arith) (omega arith) (λ _. small-test _ _ 10 0 (omega arith) (omega arith))
+rest-small s release ids = small-test _ _ 11 0 (omega arith) (omega arith)
+rest-small s (offer o) ids =
     small-first _ _ 1 _ (omega arith) (omega arith) (λ _. small-first _ _ 11 _ (omega arith) (omega arith) (λ _.
-    small-first _ _ 3 _ (omega arith) (omega arith) (λ _. small-test _ _ 14 0 (omega arith) (omega arith))))
+    small-first _ _ 15 _ (omega arith) (omega arith) (λ few.
+    small-then _ _ _ (wider mostUpdates 65537 _ (omega arith) (updates-small s [] 0 mostUpdates (updatesIn o)
+    (omega (arith, length-updates (o .ids) (o .stores) (o .lengths), ltb-false mostUpdates (length (o .ids)) (test-ok _ 15 0 few))) (omega arith)))
+    (λ _. wider slabs 65537 _ (omega arith) (room-small _ _ _ slabs 0 slabs (omega arith) (omega arith))))))
+rest-small s commit ids =
+    small-then _ _ _ (small-first _ _ 12 _ (omega arith) (omega arith) (λ _. small-test _ _ 13 0 (omega arith) (omega arith)))
+    (λ opened. wider mostOpened 65537 _ (omega arith) (commit-small s 0 mostOpened (kept s) (omega (arith, kept-most s (then-ok _ _ opened))) (omega arith)))
+rest-small s abandon ids =
+    small-then _ _ _ (small-first _ _ 12 _ (omega arith) (omega arith) (λ _. small-test _ _ 13 0 (omega arith) (omega arith)))
+    (λ opened. wider mostOpened 65537 _ (omega arith) (abandon-small s 0 mostOpened (kept s) (omega (arith, kept-most s (then-ok _ _ opened))) (omega arith)))
+rest-small s fresh ids = small _ _ (omega arith) (omega arith)
+rest-small s (rebuild rs) ids =
+    small-first _ _ 1 _ (omega arith) (omega arith) (λ _.
+    wider (suc (s .ids)) 65537 _ (omega arith)
+    (rows-small s (replicate (s .ids) 0) [] [] 0 (rowsIn rs) (length-replicate {A = ℕ} (s .ids) 0) (none-taken (s .ids)) (λ x _. zeros (s .ids) x)))
+rest-small s (ask q) ids = ask-small s q
+rest-small s (truncation k t) ids = slab-small s k t
+rest-small s (report k t) ids = small-then _ _ _ (slab-small s k t) (λ _. small-test _ _ 17 0 (omega arith) (omega arith))
 
 pub refusal-small : (s : Store) (c : Call) → Small 65537 (refusal s c)
 unfolding refusal
-refusal-small s newId =
-    small-first _ _ 1 _ (omega arith) (omega arith) (λ _. small-first _ _ 11 _ (omega arith) (omega arith) (λ _. small-test _ _ 10 0 (omega arith) (omega arith)))
-refusal-small s release = small-first _ _ 1 _ (omega arith) (omega arith) (λ _. small-test _ _ 11 0 (omega arith) (omega arith))
-refusal-small s (offer is ss ns out) =
-    small-first _ _ 1 _ (omega arith) (omega arith) (λ _. small-first _ _ 11 _ (omega arith) (omega arith) (λ _.
-    small-first _ _ 15 _ (omega arith) (omega arith) (λ few.
-    small-then _ _ _ (wider 256 65537 _ (omega arith) (updates-small s [] 0 256 (updatesOf is ss ns)
-    (omega (arith, length-updates is ss ns, ltb-false 256 (length is) (test-ok _ 15 0 few))) (omega arith)))
-    (λ _. wider 78 65537 _ (omega arith) (room-small _ _ _ slabs 0 78 (omega arith) (omega arith))))))
-refusal-small s commit =
-    small-first _ _ 1 _ (omega arith) (omega arith) (λ _. small-then _ _ _ (small-first _ _ 12 _ (omega arith) (omega arith) (λ _. small-test _ _ 13 0 (omega arith) (omega arith)))
-    (λ opened. wider 257 65537 _ (omega arith) (commit-small s 0 257 (kept s) (omega (arith, kept-most s (then-ok _ _ opened))) (omega arith))))
-refusal-small s abandon =
-    small-first _ _ 1 _ (omega arith) (omega arith) (λ _. small-then _ _ _ (small-first _ _ 12 _ (omega arith) (omega arith) (λ _. small-test _ _ 13 0 (omega arith) (omega arith)))
-    (λ opened. wider 257 65537 _ (omega arith) (abandon-small s 0 257 (kept s) (omega (arith, kept-most s (then-ok _ _ opened))) (omega arith))))
-refusal-small s fresh = small-test _ _ 1 0 (omega arith) (omega arith)
-refusal-small s (rebuild is ls) =
-    small-first _ _ 1 _ (omega arith) (omega arith) (λ fits.
-    let h : s .ids ≤ 65536 = ids-most (s .ids) (s .slots) _ fits in
-    wider (suc (s .ids)) 65537 _ (omega arith)
-    (rows-small s (replicate (s .ids) 0) [] [] 0 (rowsOf is ls) (length-replicate {A = ℕ} (s .ids) 0) (none-taken (s .ids)) (λ x _. zeros (s .ids) x)))
-refusal-small s (lookup i) =
-    small-first _ _ 1 _ (omega arith) (omega arith) (λ _. small-first _ _ 8 _ (omega arith) (omega arith) (λ _. small-test _ _ 13 0 (omega arith) (omega arith)))
-refusal-small s counters = small-test _ _ 1 0 (omega arith) (omega arith)
-refusal-small s (defrag r is ls) =
-    small-first _ _ 1 _ (omega arith) (omega arith) (λ _. small-first _ _ 11 _ (omega arith) (omega arith) (λ _. small-test _ _ 14 0 (omega arith) (omega arith)))
-refusal-small s (truncation k t) = slab-small s k t
-refusal-small s (report k t) = small-then _ _ _ (slab-small s k t) (λ _. small-test _ _ 17 0 (omega arith) (omega arith))
+refusal-small s c = small-first _ _ 1 _ (omega arith) (omega arith) (λ fits. rest-small s c (shape-ok s c fits .range .ids-to))
 
 -- a refusal's number and index are both in its status
 pub status-says : (s : Store) (c : Call) (n i : ℕ) → refusal s c ≡ refuse n i → (n < 256) × (statusOf (outcomeOf (answer s c)) ≡ n + 256 * i)

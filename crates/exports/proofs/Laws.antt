@@ -1,38 +1,34 @@
 -- Laws of exported answers. Assumes nothing.
 use mathlib.Core.Path.{_≡_, refl, sym, ap, _∙_}
-use mathlib.Core.Bool.{Bool}
 use mathlib.Core.List.{List, [], _∷_}
 use Prim.Native.Nat.{ℕ, _+_, _*_, _^_, _<_}
 use native.Mathlib.Omega.{arith}
-use lib.Ieee.{Float}
 use lib.ListN.{length, set}
 use borrow.Author.Tests.{eq-eqb, ne-eqb}
-use Rattle.refusal.specs.Outcomes.{Outcome, refusedWith}
-use Rattle.model.specs.Store.{Store, Answer, refused, gave, offer, defrag}
-use Rattle.model.specs.Batches.{takenBy, updatesOf}
-use Rattle.model.specs.Memory.{Memory, memoryOf, read}
-use Rattle.model.specs.MemoryAfter.{memoryOffer, memoryEffect, memoryAfter}
-use Rattle.model.specs.Step.{refusal, grant, answer, answerBy, unless}
+use Rattle.refusal.specs.Outcomes.{Values, refused}
+use Rattle.refusal.specs.declared.Finished.{Finished}
+use Rattle.refusal.specs.declared.Finished.the-variants as F
+use Rattle.model.specs.Store.{Offer, offer, Answer}
+use Rattle.model.specs.Batches.{takenBy, updatesIn}
+use Rattle.model.specs.Memory.{Memory, read}
+use Rattle.model.specs.MemoryAfter.{withKept, withSlots, memoryOffer, memoryEffect, memoryAfter}
+use Rattle.model.specs.Outcomes.{outcomeOf}
+use Rattle.model.specs.Step.{refusal, unless}
 use Rattle.model.specs.Verdict.{Verdict, ok, refuse}
-use Rattle.offer.specs.Outcome.{Left, answerOf}
-use Rattle.offer.specs.declared.Offered.{Offered}
-use Rattle.offer.specs.declared.Offered.the-variants as O
-use Rattle.defrag.specs.Answers.{defragOf}
-use Rattle.defrag.specs.declared.Defrag.{Defrag}
-use Rattle.defrag.specs.declared.Defrag.the-variants as D
+use Rattle.offer.specs.Outcome.{Left, offeredAnswer}
 use Rattle.exports_status.specs.Status.{statusOf, valuesIn, exported}
-use Rattle.exports.specs.Answers.{outcomeOf, whereFits}
+use Rattle.exports.specs.Answers.{whereFits}
 
 -- an index below 2^56 comes back from a status
-pub status-exact : (number index : ℕ) → number < 256 → index < 2 ^ 56 → statusOf (refusedWith number index) ≡ number + 256 * index
+pub status-exact : (number index : ℕ) → number < 256 → index < 2 ^ 56 → statusOf (refused number index) ≡ number + 256 * index
 status-exact number index h i = omega arith
 
 module _ (n : ℕ) (lent : List ℕ) where
-  pub exported-short : (o : Outcome) → (length lent ≡ n → ⊥) → record { status = 1; lent = lent } ≡ exported n o lent
+  pub exported-short : (o : Values) → (length lent ≡ n → ⊥) → record { status = 1; lent = lent } ≡ exported n o lent
   unfolding exported
   exported-short o h = simp (ne-eqb (length lent) n h)
 
-  pub exported-is : (o : Outcome) (s : ℕ) (l : List ℕ) → length lent ≡ n → statusOf o ≡ s → valuesIn o lent ≡ l → record { status = s; lent = l } ≡ exported n o lent
+  pub exported-is : (o : Values) (s : ℕ) (l : List ℕ) → length lent ≡ n → statusOf o ≡ s → valuesIn o lent ≡ l → record { status = s; lent = l } ≡ exported n o lent
   unfolding exported
   exported-is o s l h p q = simp (eq-eqb (length lent) n h, p, q)
 
@@ -65,19 +61,27 @@ four-words (a ∷ b ∷ c ∷ d ∷ e ∷ l) t u v w h = absurd (omega arith)
 
 -- ---- a store's answers
 
--- what an enum says is the model's answer: so are its outcome and its status, once the enum is told
-module _ {E : Type 0} (says : E → Answer) (e e' : E) (a : Answer) (p : says e ≡ a) (q : e ≡ e') where
-  pub told-outcome : outcomeOf a ≡ outcomeOf (says e')
-  told-outcome = ap (λ (x : Answer). outcomeOf x) (sym p ∙ ap says q)
+-- what an enum says is the outcome: so are its status and its values, once the enum is told
+module _ {E : Type 0} (says : E → Values) (e e' : E) (o : Values) (p : says e ≡ o) (q : e ≡ e') where
+  pub said-status : statusOf (says e') ≡ statusOf o
+  said-status = ap statusOf (sym (ap says q) ∙ p)
 
+  pub said-exported :
+      (n : ℕ) (lent : List ℕ) (s : ℕ) (l : List ℕ) → length lent ≡ n → statusOf (says e') ≡ s → valuesIn (says e') lent ≡ l
+      → record { status = s; lent = l } ≡ exported n o lent
+  said-exported n lent s l h u v =
+      let t : o ≡ says e' = sym p ∙ ap says q in
+      exported-is n lent o s l h (ap statusOf t ∙ u) (ap (λ (x : Values). valuesIn x lent) t ∙ v)
+
+-- the same where it says the model's answer
+module _ {E : Type 0} (says : E → Answer) (e e' : E) (a : Answer) (p : says e ≡ a) (q : e ≡ e') where
   pub told-status : statusOf (outcomeOf (says e')) ≡ statusOf (outcomeOf a)
-  told-status = sym (ap (λ (o : Outcome). statusOf o) told-outcome)
+  told-status = said-status (λ (x : E). outcomeOf (says x)) e e' (outcomeOf a) (ap outcomeOf p) q
 
   pub told-exported :
       (n : ℕ) (lent : List ℕ) (s : ℕ) (l : List ℕ) → length lent ≡ n → statusOf (outcomeOf (says e')) ≡ s → valuesIn (outcomeOf (says e')) lent ≡ l
       → record { status = s; lent = l } ≡ exported n (outcomeOf a) lent
-  told-exported n lent s l h u v =
-      exported-is n lent (outcomeOf a) s l h (ap (λ (o : Outcome). statusOf o) told-outcome ∙ u) (ap (λ (o : Outcome). valuesIn o lent) told-outcome ∙ v)
+  told-exported = said-exported (λ (x : E). outcomeOf (says x)) e e' (outcomeOf a) (ap outcomeOf p) q
 
 module _ {A : Type 0} (n : ℕ) (lent : List ℕ) (after before : A) where
   pub whereFits-fits : length lent ≡ n → after ≡ whereFits n lent after before
@@ -90,38 +94,25 @@ module _ {A : Type 0} (n : ℕ) (lent : List ℕ) (after before : A) where
 
 -- an offer's status does not depend on the locations
 pub offered-status :
-    (o o' : Offered) (sm b t ls : List ℕ) (w : Left) → record { answer = answerOf o ls; slotMarks = sm; batch = b; tallies = t; placed = ls } ≡ w → o ≡ o'
-    → statusOf (outcomeOf (answerOf o' [])) ≡ statusOf (outcomeOf (w .answer))
-offered-status o o' sm b t ls w e q = any o' ∙ told-status (λ (x : Offered). answerOf x ls) o o' (w .answer) (ap (λ (x : Left). x .answer) e) q
+    (o o' : Finished) (sm b t ls : List ℕ) (w : Left) → record { answer = offeredAnswer o ls; slotMarks = sm; batch = b; tallies = t; placed = ls } ≡ w → o ≡ o'
+    → statusOf (outcomeOf (offeredAnswer o' [])) ≡ statusOf (outcomeOf (w .answer))
+offered-status o o' sm b t ls w e q = any o' ∙ told-status (λ (x : Finished). offeredAnswer x ls) o o' (w .answer) (ap (λ (x : Left). x .answer) e) q
   where
-    any : (x : Offered) → statusOf (outcomeOf (answerOf x [])) ≡ statusOf (outcomeOf (answerOf x ls))
-    any O.Done = refl
-    any (O.Refused r) = refl
+    any : (x : Finished) → statusOf (outcomeOf (offeredAnswer x [])) ≡ statusOf (outcomeOf (offeredAnswer x ls))
+    any F.Done = refl
+    any (F.Refused r) = refl
 
 -- an offer changes three tables
 pub offer-memory :
-    (m : Memory) (is : List ℕ) (ss : List Bool) (ns out sm b t : List ℕ) → sm ≡ memoryAfter m (offer is ss ns out) .slotMarks
-    → b ≡ memoryAfter m (offer is ss ns out) .batch → t ≡ memoryAfter m (offer is ss ns out) .tallies
-    → memoryOf (m .ids) (m .slots) (m .idMarks) (m .locations) sm (m .owners) b t ≡ memoryAfter m (offer is ss ns out)
+    (m : Memory) (o : Offer) (sm b t : List ℕ) → sm ≡ memoryAfter m (offer o) .slotMarks
+    → b ≡ memoryAfter m (offer o) .batch → t ≡ memoryAfter m (offer o) .tallies
+    → withKept (withSlots m (record { marks = sm; words = t })) b ≡ memoryAfter m (offer o)
 unfolding memoryAfter memoryEffect
-offer-memory m is ss ns out sm b t p q r = (λ k. memoryOf (m .ids) (m .slots) (m .idMarks) (m .locations) (p k) (m .owners) (q k) (r k)) ∙ go (refusal (read m) (offer is ss ns out))
+offer-memory m o sm b t p q r = (λ k. withKept (withSlots m (record { marks = p k; words = r k })) (q k)) ∙ go (refusal (read m) (offer o))
   where
     new : Memory
-    new = memoryOffer m is (takenBy (read m) (updatesOf is ss ns))
+    new = memoryOffer m (o .ids) (takenBy (read m) (updatesIn o))
 
-    go : (v : Verdict) → memoryOf (m .ids) (m .slots) (m .idMarks) (m .locations) (unless v m new .slotMarks) (m .owners) (unless v m new .batch) (unless v m new .tallies) ≡ unless v m new
-    go ok = refl
-    go (refuse n i) = refl
-
--- the answer to a defrag is a refusal or a list: its count and the refusal say its outcome
-abbrev pub countOf : Defrag → Answer
-countOf (D.Rows n) = gave n
-countOf (D.Refused r) = refused (r .number) (r .index)
-
-pub defrag-outcome : (s : Store) (r : Float) (is ls : List ℕ) → outcomeOf (answer s (defrag r is ls)) ≡ outcomeOf (countOf (defragOf (answer s (defrag r is ls))))
-unfolding answer grant
-defrag-outcome s r is ls = go (refusal s (defrag r is ls))
-  where
-    go : (v : Verdict) → outcomeOf (answerBy v (grant s (defrag r is ls))) ≡ outcomeOf (countOf (defragOf (answerBy v (grant s (defrag r is ls)))))
+    go : (v : Verdict) → withKept (withSlots m (record { marks = unless v m new .slotMarks; words = unless v m new .tallies })) (unless v m new .batch) ≡ unless v m new
     go ok = refl
     go (refuse n i) = refl

@@ -1,18 +1,12 @@
 // Offer, commit, abandon and release.
 ghost use mathlib.Core.Path.{_≡_};
-ghost use mathlib.Core.List.{[]};
 ghost use Rattle.model.specs.Store.{offer, commit, abandon, release};
-ghost use Rattle.model.specs.Lent.{placedIn};
-ghost use Rattle.model.specs.Memory.{Memory, memoryOf, read};
-ghost use Rattle.model.specs.MemoryAfter.{memoryAfter};
-ghost use Rattle.model.specs.Step.{answer};
+ghost use Rattle.model.specs.Memory.{Memory};
+ghost use Rattle.model.specs.Lent.{lentTo, answered, leaves};
+ghost use Rattle.model.specs.Outcomes.{outcomeOf, listIn};
 ghost use Rattle.exports_status.specs.Status.{statusOf};
-ghost use Rattle.exports.specs.Answers.{outcomeOf};
-use abandon::Abandoned;
-use commit::Committed;
 use exports_status::status;
-use offer::Offered;
-use release::Released;
+use refusal::Finished;
 use tables::Capacities;
 
 // Takes a slot for each Store of a batch. `placed` has as many rows as there are updates: their locations, 0 for a Free.
@@ -31,10 +25,55 @@ pub extern "C" fn wentuhoro_offer(
     lengths: &[u64],
     placed: &mut [u64],
 ) -> u64
-    ensures { λ r. ⌜ r ≡ statusOf (outcomeOf (answer (read (memoryOf ids slots (now («id_marks» .entry)) (now (locations .entry)) (now («slot_marks» .entry)) (now (owners .entry)) (now (batch .entry)) (now (tallies .entry)))) (offer (now («update_ids» .entry)) (now (stores .entry)) (now (lengths .entry)) (now (placed .entry))))) ⌝ }
-    ensures { λ _. ⌜ _≡_ {A = Memory} (memoryOf ids slots (now («id_marks» .entry)) (now (locations .entry)) (now («slot_marks» .exit)) (now (owners .entry)) (now (batch .exit)) (now (tallies .exit)))
-        (memoryAfter (memoryOf ids slots (now («id_marks» .entry)) (now (locations .entry)) (now («slot_marks» .entry)) (now (owners .entry)) (now (batch .entry)) (now (tallies .entry))) (offer (now («update_ids» .entry)) (now (stores .entry)) (now (lengths .entry)) (now (placed .entry)))) ⌝ }
-    ensures { λ _. ⌜ now (placed .exit) ≡ placedIn (answer (read (memoryOf ids slots (now («id_marks» .entry)) (now (locations .entry)) (now («slot_marks» .entry)) (now (owners .entry)) (now (batch .entry)) (now (tallies .entry)))) (offer (now («update_ids» .entry)) (now (stores .entry)) (now (lengths .entry)) (now (placed .entry)))) (now (placed .entry)) ⌝ }
+    ensures { λ r. ⌜ r ≡ statusOf (outcomeOf (answered (offer (record {
+      ids = now («update_ids» .entry);
+      stores = now (stores .entry);
+      lengths = now (lengths .entry);
+      placed = now (placed .entry);
+    })) ids slots
+        (now («id_marks» .entry))
+        (now (locations .entry))
+        (now («slot_marks» .entry))
+        (now (owners .entry))
+        (now (batch .entry))
+        (now (tallies .entry)))) ⌝ }
+    ensures { λ _. ⌜ _≡_ {A = Memory} (lentTo (offer (record {
+      ids = now («update_ids» .entry);
+      stores = now (stores .entry);
+      lengths = now (lengths .entry);
+      placed = now (placed .entry);
+    })) ids slots
+        (now («id_marks» .entry))
+        (now (locations .entry))
+        (now («slot_marks» .exit))
+        (now (owners .entry))
+        (now (batch .exit))
+        (now (tallies .exit)))
+        (leaves (offer (record {
+          ids = now («update_ids» .entry);
+          stores = now (stores .entry);
+          lengths = now (lengths .entry);
+          placed = now (placed .entry);
+        })) ids slots
+        (now («id_marks» .entry))
+        (now (locations .entry))
+        (now («slot_marks» .entry))
+        (now (owners .entry))
+        (now (batch .entry))
+        (now (tallies .entry))) ⌝ }
+    ensures { λ _. ⌜ now (placed .exit) ≡ listIn 0 (answered (offer (record {
+      ids = now («update_ids» .entry);
+      stores = now (stores .entry);
+      lengths = now (lengths .entry);
+      placed = now (placed .entry);
+    })) ids slots
+        (now («id_marks» .entry))
+        (now (locations .entry))
+        (now («slot_marks» .entry))
+        (now (owners .entry))
+        (now (batch .entry))
+        (now (tallies .entry)))
+        (now (placed .entry)) ⌝ }
 {
     let caps = Capacities { ids, slots };
     match offer::offer(
@@ -50,8 +89,8 @@ pub extern "C" fn wentuhoro_offer(
         lengths,
         placed,
     ) {
-        Offered::Done => 0,
-        Offered::Refused(r) => status(r),
+        Finished::Done => 0,
+        Finished::Refused(r) => status(r),
     }
 }
 
@@ -67,9 +106,27 @@ pub extern "C" fn wentuhoro_commit(
     batch: &mut [u64],
     tallies: &mut [u64],
 ) -> u64
-    ensures { λ r. ⌜ r ≡ statusOf (outcomeOf (answer (read (memoryOf ids slots (now («id_marks» .entry)) (now (locations .entry)) (now («slot_marks» .entry)) (now (owners .entry)) (now (batch .entry)) (now (tallies .entry)))) commit)) ⌝ }
-    ensures { λ _. ⌜ _≡_ {A = Memory} (memoryOf ids slots (now («id_marks» .exit)) (now (locations .exit)) (now («slot_marks» .exit)) (now (owners .exit)) (now (batch .exit)) (now (tallies .exit)))
-        (memoryAfter (memoryOf ids slots (now («id_marks» .entry)) (now (locations .entry)) (now («slot_marks» .entry)) (now (owners .entry)) (now (batch .entry)) (now (tallies .entry))) commit) ⌝ }
+    ensures { λ r. ⌜ r ≡ statusOf (outcomeOf (answered commit ids slots
+        (now («id_marks» .entry))
+        (now (locations .entry))
+        (now («slot_marks» .entry))
+        (now (owners .entry))
+        (now (batch .entry))
+        (now (tallies .entry)))) ⌝ }
+    ensures { λ _. ⌜ _≡_ {A = Memory} (lentTo commit ids slots
+        (now («id_marks» .exit))
+        (now (locations .exit))
+        (now («slot_marks» .exit))
+        (now (owners .exit))
+        (now (batch .exit))
+        (now (tallies .exit)))
+        (leaves commit ids slots
+        (now («id_marks» .entry))
+        (now (locations .entry))
+        (now («slot_marks» .entry))
+        (now (owners .entry))
+        (now (batch .entry))
+        (now (tallies .entry))) ⌝ }
 {
     let caps = Capacities { ids, slots };
     match commit::commit(
@@ -81,8 +138,8 @@ pub extern "C" fn wentuhoro_commit(
         batch,
         tallies,
     ) {
-        Committed::Done => 0,
-        Committed::Refused(r) => status(r),
+        Finished::Done => 0,
+        Finished::Refused(r) => status(r),
     }
 }
 
@@ -95,14 +152,23 @@ pub extern "C" fn wentuhoro_abandon(
     batch: &mut [u64],
     tallies: &mut [u64],
 ) -> u64
-    ensures { λ r. ⌜ r ≡ statusOf (outcomeOf (answer (read (memoryOf ids slots [] [] (now («slot_marks» .entry)) [] (now (batch .entry)) (now (tallies .entry)))) abandon)) ⌝ }
-    ensures { λ _. ⌜ _≡_ {A = Memory} (memoryOf ids slots [] [] (now («slot_marks» .exit)) [] (now (batch .exit)) (now (tallies .exit)))
-        (memoryAfter (memoryOf ids slots [] [] (now («slot_marks» .entry)) [] (now (batch .entry)) (now (tallies .entry))) abandon) ⌝ }
+    ensures { λ r. ⌜ r ≡ statusOf (outcomeOf (answered abandon ids slots
+        (now («slot_marks» .entry))
+        (now (batch .entry))
+        (now (tallies .entry)))) ⌝ }
+    ensures { λ _. ⌜ _≡_ {A = Memory} (lentTo abandon ids slots
+        (now («slot_marks» .exit))
+        (now (batch .exit))
+        (now (tallies .exit)))
+        (leaves abandon ids slots
+        (now («slot_marks» .entry))
+        (now (batch .entry))
+        (now (tallies .entry))) ⌝ }
 {
     let caps = Capacities { ids, slots };
     match abandon::abandon(caps, slot_marks, batch, tallies) {
-        Abandoned::Done => 0,
-        Abandoned::Refused(r) => status(r),
+        Finished::Done => 0,
+        Finished::Refused(r) => status(r),
     }
 }
 
@@ -116,13 +182,25 @@ pub extern "C" fn wentuhoro_release(
     batch: &[u64],
     tallies: &mut [u64],
 ) -> u64
-    ensures { λ r. ⌜ r ≡ statusOf (outcomeOf (answer (read (memoryOf ids slots (now («id_marks» .entry)) [] (now («slot_marks» .entry)) [] (now (batch .entry)) (now (tallies .entry)))) release)) ⌝ }
-    ensures { λ _. ⌜ _≡_ {A = Memory} (memoryOf ids slots (now («id_marks» .exit)) [] (now («slot_marks» .exit)) [] (now (batch .entry)) (now (tallies .exit)))
-        (memoryAfter (memoryOf ids slots (now («id_marks» .entry)) [] (now («slot_marks» .entry)) [] (now (batch .entry)) (now (tallies .entry))) release) ⌝ }
+    ensures { λ r. ⌜ r ≡ statusOf (outcomeOf (answered release ids slots
+        (now («id_marks» .entry))
+        (now («slot_marks» .entry))
+        (now (batch .entry))
+        (now (tallies .entry)))) ⌝ }
+    ensures { λ _. ⌜ _≡_ {A = Memory} (lentTo release ids slots
+        (now («id_marks» .exit))
+        (now («slot_marks» .exit))
+        (now (batch .entry))
+        (now (tallies .exit)))
+        (leaves release ids slots
+        (now («id_marks» .entry))
+        (now («slot_marks» .entry))
+        (now (batch .entry))
+        (now (tallies .entry))) ⌝ }
 {
     let caps = Capacities { ids, slots };
     match release::release(caps, id_marks, slot_marks, batch, tallies) {
-        Released::Done => 0,
-        Released::Refused(r) => status(r),
+        Finished::Done => 0,
+        Finished::Refused(r) => status(r),
     }
 }

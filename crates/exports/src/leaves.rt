@@ -1,12 +1,13 @@
 // Classes, checks, frames, cookies, addresses and cutoffs.
 ghost use mathlib.Core.Path.{_≡_};
+ghost use Rattle.refusal.specs.Outcomes.{finishedOutcome, judgedOutcome};
 ghost use Rattle.crc_steps.specs.Crc32.{crcOver, crc32};
 ghost use Rattle.sizes.specs.Sizes.{classOf};
 ghost use Rattle.sizes.specs.Outcomes.{classOutcome};
 ghost use Rattle.frame.specs.Frame.{writing, verdictOf};
-ghost use Rattle.frame.specs.Outcomes.{writtenOutcome, verdictOutcome};
+ghost use Rattle.frame.specs.Outcomes.{verdictOutcome};
 ghost use Rattle.settings.specs.Settings.{storing, settingsOf, agreement};
-ghost use Rattle.settings.specs.Outcomes.{storedOutcome, persistentSettingsOutcome, verifiedOutcome};
+ghost use Rattle.settings.specs.Outcomes.{persistentSettingsOutcome};
 ghost use Rattle.address.specs.Address.{packed, unpacked};
 ghost use Rattle.address.specs.Outcomes.{packedOutcome};
 ghost use Rattle.fragmentation.specs.Answer.{cutoffOf};
@@ -21,16 +22,16 @@ use exports_status::status;
 use fragmentation::Cutoff;
 use frame::Slab;
 use frame::Verdict;
-use frame::Written;
+use refusal::Finished;
+use refusal::Judged;
 use settings::PersistentSettings;
-use settings::Stored;
-use settings::Verified;
 use sizes::Class;
 
 // The slab for an object of n bytes. One value.
 #[no_mangle]
 pub extern "C" fn wentuhoro_class(n: u64, slab: &mut [u64]) -> u64
-    ensures { λ r. ⌜ _≡_ {A = Exported} (record { status = r; lent = now (slab .exit) }) (exported 1 (classOutcome (classOf n)) (now (slab .entry))) ⌝ }
+    ensures { λ r. ⌜ _≡_ {A = Exported} (record { status = r; lent = now (slab .exit) })
+        (exported 1 (classOutcome (classOf n)) (now (slab .entry))) ⌝ }
 {
     if slab.len() != 1 {
         return WRONG_LENGTH;
@@ -63,18 +64,20 @@ pub extern "C" fn wentuhoro_crc32_update(register: u32, bytes: &[u8]) -> u32
 // Writes an object into a slot.
 #[no_mangle]
 pub extern "C" fn wentuhoro_frame_write(slot: &mut [u8], object: &[u8]) -> u64
-    ensures { λ r. ⌜ (r ≡ statusOf (writtenOutcome (writing (now (slot .entry)) (now (object .entry)) .answer))) × (now (slot .exit) ≡ writing (now (slot .entry)) (now (object .entry)) .slot) ⌝ }
+    ensures { λ r. ⌜ (r ≡ statusOf (finishedOutcome (writing (now (slot .entry)) (now (object .entry)) .answer)))
+        × (now (slot .exit) ≡ writing (now (slot .entry)) (now (object .entry)) .slot) ⌝ }
 {
     match Slab::write(slot, object) {
-        Written::Done => 0,
-        Written::Refused(r) => status(r),
+        Finished::Done => 0,
+        Finished::Refused(r) => status(r),
     }
 }
 
 // The length of the object in a slot: the slot's own first bytes. One value.
 #[no_mangle]
 pub extern "C" fn wentuhoro_frame_read(slot: &[u8], length: &mut [u64]) -> u64
-    ensures { λ r. ⌜ _≡_ {A = Exported} (record { status = r; lent = now (length .exit) }) (exported 1 (verdictOutcome (verdictOf (now (slot .entry)))) (now (length .entry))) ⌝ }
+    ensures { λ r. ⌜ _≡_ {A = Exported} (record { status = r; lent = now (length .exit) })
+        (exported 1 (verdictOutcome (verdictOf (now (slot .entry)))) (now (length .entry))) ⌝ }
 {
     if length.len() != 1 {
         return WRONG_LENGTH;
@@ -91,18 +94,20 @@ pub extern "C" fn wentuhoro_frame_read(slot: &[u8], length: &mut [u64]) -> u64
 // Writes a settings cookie of 64 bytes.
 #[no_mangle]
 pub extern "C" fn wentuhoro_cookie_write(leaf_fanout: u64, cookie: &mut [u8]) -> u64
-    ensures { λ r. ⌜ (r ≡ statusOf (storedOutcome (storing «leaf_fanout» (now (cookie .entry)) .answer))) × (now (cookie .exit) ≡ storing «leaf_fanout» (now (cookie .entry)) .cookie) ⌝ }
+    ensures { λ r. ⌜ (r ≡ statusOf (finishedOutcome (storing «leaf_fanout» (now (cookie .entry)) .answer)))
+        × (now (cookie .exit) ≡ storing «leaf_fanout» (now (cookie .entry)) .cookie) ⌝ }
 {
     match PersistentSettings::serialize(leaf_fanout, cookie) {
-        Stored::Done => 0,
-        Stored::Refused(r) => status(r),
+        Finished::Done => 0,
+        Finished::Refused(r) => status(r),
     }
 }
 
 // The fanout in a settings cookie. One value.
 #[no_mangle]
 pub extern "C" fn wentuhoro_cookie_read(cookie: &[u8], leaf_fanout: &mut [u64]) -> u64
-    ensures { λ r. ⌜ _≡_ {A = Exported} (record { status = r; lent = now («leaf_fanout» .exit) }) (exported 1 (persistentSettingsOutcome (settingsOf (now (cookie .entry)))) (now («leaf_fanout» .entry))) ⌝ }
+    ensures { λ r. ⌜ _≡_ {A = Exported} (record { status = r; lent = now («leaf_fanout» .exit) })
+        (exported 1 (persistentSettingsOutcome (settingsOf (now (cookie .entry)))) (now («leaf_fanout» .entry))) ⌝ }
 {
     if leaf_fanout.len() != 1 {
         return WRONG_LENGTH;
@@ -119,11 +124,11 @@ pub extern "C" fn wentuhoro_cookie_read(cookie: &[u8], leaf_fanout: &mut [u64]) 
 // Whether a settings cookie was written with this fanout.
 #[no_mangle]
 pub extern "C" fn wentuhoro_cookie_verify(cookie: &[u8], leaf_fanout: u64) -> u64
-    ensures { λ r. ⌜ r ≡ statusOf (verifiedOutcome (agreement «leaf_fanout» (settingsOf (now (cookie .entry))))) ⌝ }
+    ensures { λ r. ⌜ r ≡ statusOf (judgedOutcome (agreement «leaf_fanout» (settingsOf (now (cookie .entry))))) ⌝ }
 {
     match PersistentSettings::verify(cookie, leaf_fanout) {
-        Verified::Agrees => 0,
-        Verified::Refused(r) => status(r),
+        Judged::Passed => 0,
+        Judged::Refused(r) => status(r),
     }
 }
 
@@ -135,7 +140,8 @@ pub extern "C" fn wentuhoro_pack(
     slot: usize,
     location: &mut [u64],
 ) -> u64
-    ensures { λ r. ⌜ _≡_ {A = Exported} (record { status = r; lent = now (location .exit) }) (exported 1 (packedOutcome (packed slots (record { slab = slab; slot = slot }))) (now (location .entry))) ⌝ }
+    ensures { λ r. ⌜ _≡_ {A = Exported} (record { status = r; lent = now (location .exit) })
+        (exported 1 (packedOutcome (packed slots (record { slab = slab; slot = slot }))) (now (location .entry))) ⌝ }
 {
     if location.len() != 1 {
         return WRONG_LENGTH;
@@ -153,7 +159,8 @@ pub extern "C" fn wentuhoro_pack(
 // The slot of a packed location. Three values: 1, slab, slot; or three zeros for no object.
 #[no_mangle]
 pub extern "C" fn wentuhoro_unpack(slots: usize, location: u64, address: &mut [u64]) -> u64
-    ensures { λ r. ⌜ _≡_ {A = Exported} (record { status = r; lent = now (address .exit) }) (exported 3 (unpackedInThree (unpacked slots location)) (now (address .entry))) ⌝ }
+    ensures { λ r. ⌜ _≡_ {A = Exported} (record { status = r; lent = now (address .exit) })
+        (exported 3 (unpackedInThree (unpacked slots location)) (now (address .entry))) ⌝ }
 {
     if address.len() != 3 {
         return WRONG_LENGTH;
@@ -179,7 +186,8 @@ pub extern "C" fn wentuhoro_fragmentation_cutoff(
     ratio: f32,
     cutoff: &mut [u64],
 ) -> u64
-    ensures { λ r. ⌜ _≡_ {A = Exported} (record { status = r; lent = now (cutoff .exit) }) (exported 2 (cutoffInTwo (cutoffOf live tip ratio)) (now (cutoff .entry))) ⌝ }
+    ensures { λ r. ⌜ _≡_ {A = Exported} (record { status = r; lent = now (cutoff .exit) })
+        (exported 2 (cutoffInTwo (cutoffOf live tip ratio)) (now (cutoff .entry))) ⌝ }
 {
     if cutoff.len() != 2 {
         return WRONG_LENGTH;

@@ -1,19 +1,17 @@
 // The night's work: what to move, and which files to cut.
 ghost use mathlib.Core.Path.{_≡_};
-ghost use mathlib.Core.List.{[]};
-ghost use Rattle.model.specs.Store.{defrag, truncation, report};
-ghost use Rattle.model.specs.Lent.{movedIn, movedTo};
-ghost use Rattle.model.specs.Memory.{Memory, memoryOf, read};
-ghost use Rattle.model.specs.MemoryAfter.{memoryAfter};
-ghost use Rattle.model.specs.Step.{answer};
+ghost use Rattle.model.specs.Store.{ask, defrag, truncation, report};
+ghost use Rattle.model.specs.Memory.{Memory};
+ghost use Rattle.model.specs.Lent.{lentTo, answered, leaves};
+ghost use Rattle.model.specs.Outcomes.{outcomeOf, listIn};
 ghost use Rattle.exports_status.specs.Status.{statusOf, Exported, exported};
-ghost use Rattle.exports.specs.Answers.{outcomeOf, whereFits};
+ghost use Rattle.exports.specs.Answers.{whereFits};
 use crate::values;
 use defrag::Defrag;
 use exports_status::WRONG_LENGTH;
 use exports_status::status;
+use refusal::Finished;
 use tables::Capacities;
-use truncation::Reported;
 use truncation::Truncated;
 
 // The objects to move, by slab, then slot, in the first rows of two lists of ids - 1 rows. One value: how many rows.
@@ -32,9 +30,33 @@ pub extern "C" fn wentuhoro_defrag(
     count: &mut [u64],
 ) -> u64
     ensures { λ r. ⌜ _≡_ {A = Exported} (record { status = r; lent = now (count .exit) })
-        (exported 1 (outcomeOf (answer (read (memoryOf ids slots [] (now (locations .entry)) (now («slot_marks» .entry)) (now (owners .entry)) (now (batch .entry)) (now (tallies .entry)))) (defrag ratio (now («moved_ids» .entry)) (now («moved_locations» .entry))))) (now (count .entry))) ⌝ }
-    ensures { λ _. ⌜ now («moved_ids» .exit) ≡ whereFits 1 (now (count .entry)) (movedIn (answer (read (memoryOf ids slots [] (now (locations .entry)) (now («slot_marks» .entry)) (now (owners .entry)) (now (batch .entry)) (now (tallies .entry)))) (defrag ratio (now («moved_ids» .entry)) (now («moved_locations» .entry)))) (now («moved_ids» .entry))) (now («moved_ids» .entry)) ⌝ }
-    ensures { λ _. ⌜ now («moved_locations» .exit) ≡ whereFits 1 (now (count .entry)) (movedTo (answer (read (memoryOf ids slots [] (now (locations .entry)) (now («slot_marks» .entry)) (now (owners .entry)) (now (batch .entry)) (now (tallies .entry)))) (defrag ratio (now («moved_ids» .entry)) (now («moved_locations» .entry)))) (now («moved_locations» .entry))) (now («moved_locations» .entry)) ⌝ }
+        (exported 1 (outcomeOf (answered (ask (defrag ratio (now («moved_ids» .entry)) (now («moved_locations» .entry)))) ids slots
+        (now (locations .entry))
+        (now («slot_marks» .entry))
+        (now (owners .entry))
+        (now (batch .entry))
+        (now (tallies .entry))))
+        (now (count .entry))) ⌝ }
+    ensures { λ _. ⌜ now («moved_ids» .exit)
+        ≡ whereFits 1 (now (count .entry))
+        (listIn 0 (answered (ask (defrag ratio (now («moved_ids» .entry)) (now («moved_locations» .entry)))) ids slots
+        (now (locations .entry))
+        (now («slot_marks» .entry))
+        (now (owners .entry))
+        (now (batch .entry))
+        (now (tallies .entry)))
+        (now («moved_ids» .entry)))
+        (now («moved_ids» .entry)) ⌝ }
+    ensures { λ _. ⌜ now («moved_locations» .exit)
+        ≡ whereFits 1 (now (count .entry))
+        (listIn 1 (answered (ask (defrag ratio (now («moved_ids» .entry)) (now («moved_locations» .entry)))) ids slots
+        (now (locations .entry))
+        (now («slot_marks» .entry))
+        (now (owners .entry))
+        (now (batch .entry))
+        (now (tallies .entry)))
+        (now («moved_locations» .entry)))
+        (now («moved_locations» .entry)) ⌝ }
 {
     if count.len() != 1 {
         return WRONG_LENGTH;
@@ -72,9 +94,24 @@ pub extern "C" fn wentuhoro_truncation(
     cut: &mut [u64],
 ) -> u64
     ensures { λ r. ⌜ _≡_ {A = Exported} (record { status = r; lent = now (cut .exit) })
-        (exported 3 (outcomeOf (answer (read (memoryOf ids slots [] [] (now («slot_marks» .entry)) [] (now (batch .entry)) (now (tallies .entry)))) (truncation slab t))) (now (cut .entry))) ⌝ }
-    ensures { λ _. ⌜ _≡_ {A = Memory} (memoryOf ids slots [] [] (now («slot_marks» .entry)) [] (now (batch .entry)) (now (tallies .exit)))
-        (whereFits 3 (now (cut .entry)) (memoryAfter (memoryOf ids slots [] [] (now («slot_marks» .entry)) [] (now (batch .entry)) (now (tallies .entry))) (truncation slab t)) (memoryOf ids slots [] [] (now («slot_marks» .entry)) [] (now (batch .entry)) (now (tallies .entry)))) ⌝ }
+        (exported 3 (outcomeOf (answered (truncation slab t) ids slots
+        (now («slot_marks» .entry))
+        (now (batch .entry))
+        (now (tallies .entry))))
+        (now (cut .entry))) ⌝ }
+    ensures { λ _. ⌜ _≡_ {A = Memory} (lentTo (truncation slab t) ids slots
+        (now («slot_marks» .entry))
+        (now (batch .entry))
+        (now (tallies .exit)))
+        (whereFits 3 (now (cut .entry))
+        (leaves (truncation slab t) ids slots
+        (now («slot_marks» .entry))
+        (now (batch .entry))
+        (now (tallies .entry)))
+        (lentTo (truncation slab t) ids slots
+        (now («slot_marks» .entry))
+        (now (batch .entry))
+        (now (tallies .entry)))) ⌝ }
 {
     if cut.len() != 3 {
         return WRONG_LENGTH;
@@ -104,13 +141,22 @@ pub extern "C" fn wentuhoro_cut_done(
     slab: u64,
     t: u64,
 ) -> u64
-    ensures { λ r. ⌜ r ≡ statusOf (outcomeOf (answer (read (memoryOf ids slots [] [] (now («slot_marks» .entry)) [] (now (batch .entry)) (now (tallies .entry)))) (report slab t))) ⌝ }
-    ensures { λ _. ⌜ _≡_ {A = Memory} (memoryOf ids slots [] [] (now («slot_marks» .entry)) [] (now (batch .entry)) (now (tallies .exit)))
-        (memoryAfter (memoryOf ids slots [] [] (now («slot_marks» .entry)) [] (now (batch .entry)) (now (tallies .entry))) (report slab t)) ⌝ }
+    ensures { λ r. ⌜ r ≡ statusOf (outcomeOf (answered (report slab t) ids slots
+        (now («slot_marks» .entry))
+        (now (batch .entry))
+        (now (tallies .entry)))) ⌝ }
+    ensures { λ _. ⌜ _≡_ {A = Memory} (lentTo (report slab t) ids slots
+        (now («slot_marks» .entry))
+        (now (batch .entry))
+        (now (tallies .exit)))
+        (leaves (report slab t) ids slots
+        (now («slot_marks» .entry))
+        (now (batch .entry))
+        (now (tallies .entry))) ⌝ }
 {
     let caps = Capacities { ids, slots };
     match truncation::cut_done(caps, slot_marks, batch, tallies, slab, t) {
-        Reported::Done => 0,
-        Reported::Refused(r) => status(r),
+        Finished::Done => 0,
+        Finished::Refused(r) => status(r),
     }
 }

@@ -1,13 +1,12 @@
 // One object: its id, where it lies, and what was granted and freed.
 ghost use mathlib.Core.Path.{_≡_};
-ghost use mathlib.Core.List.{[]};
-ghost use Rattle.model.specs.Store.{newId, lookup, counters};
-ghost use Rattle.model.specs.Memory.{Memory, memoryOf, read};
-ghost use Rattle.model.specs.MemoryAfter.{memoryAfter};
-ghost use Rattle.model.specs.Step.{answer};
-ghost use Rattle.object_ids.specs.Counts.{listed, grantedIn, freedIn};
+ghost use Rattle.model.specs.Store.{newId, ask, lookup, counters};
+ghost use Rattle.model.specs.Memory.{Memory};
+ghost use Rattle.model.specs.Lent.{lentTo, answered, leaves};
+ghost use Rattle.model.specs.Outcomes.{outcomeOf, listIn};
+ghost use Rattle.object_ids.specs.Counts.{listed};
 ghost use Rattle.exports_status.specs.Status.{statusOf, Exported, exported};
-ghost use Rattle.exports.specs.Answers.{outcomeOf, whereFits};
+ghost use Rattle.exports.specs.Answers.{whereFits};
 use crate::values;
 use exports_status::WRONG_LENGTH;
 use exports_status::status;
@@ -27,9 +26,24 @@ pub extern "C" fn wentuhoro_new_id(
     id: &mut [u64],
 ) -> u64
     ensures { λ r. ⌜ _≡_ {A = Exported} (record { status = r; lent = now (id .exit) })
-        (exported 1 (outcomeOf (answer (read (memoryOf ids slots (now («id_marks» .entry)) [] [] [] (now (batch .entry)) (now (tallies .entry)))) newId)) (now (id .entry))) ⌝ }
-    ensures { λ _. ⌜ _≡_ {A = Memory} (memoryOf ids slots (now («id_marks» .exit)) [] [] [] (now (batch .entry)) (now (tallies .exit)))
-        (whereFits 1 (now (id .entry)) (memoryAfter (memoryOf ids slots (now («id_marks» .entry)) [] [] [] (now (batch .entry)) (now (tallies .entry))) newId) (memoryOf ids slots (now («id_marks» .entry)) [] [] [] (now (batch .entry)) (now (tallies .entry)))) ⌝ }
+        (exported 1 (outcomeOf (answered newId ids slots
+        (now («id_marks» .entry))
+        (now (batch .entry))
+        (now (tallies .entry))))
+        (now (id .entry))) ⌝ }
+    ensures { λ _. ⌜ _≡_ {A = Memory} (lentTo newId ids slots
+        (now («id_marks» .exit))
+        (now (batch .entry))
+        (now (tallies .exit)))
+        (whereFits 1 (now (id .entry))
+        (leaves newId ids slots
+        (now («id_marks» .entry))
+        (now (batch .entry))
+        (now (tallies .entry)))
+        (lentTo newId ids slots
+        (now («id_marks» .entry))
+        (now (batch .entry))
+        (now (tallies .entry)))) ⌝ }
 {
     if id.len() != 1 {
         return WRONG_LENGTH;
@@ -58,7 +72,13 @@ pub extern "C" fn wentuhoro_lookup(
     location: &mut [u64],
 ) -> u64
     ensures { λ r. ⌜ _≡_ {A = Exported} (record { status = r; lent = now (location .exit) })
-        (exported 1 (outcomeOf (answer (read (memoryOf ids slots (now («id_marks» .entry)) (now (locations .entry)) (now («slot_marks» .entry)) (now (owners .entry)) [] (now (tallies .entry)))) (lookup id))) (now (location .entry))) ⌝ }
+        (exported 1 (outcomeOf (answered (ask (lookup id)) ids slots
+        (now («id_marks» .entry))
+        (now (locations .entry))
+        (now («slot_marks» .entry))
+        (now (owners .entry))
+        (now (tallies .entry))))
+        (now (location .entry))) ⌝ }
 {
     if location.len() != 1 {
         return WRONG_LENGTH;
@@ -90,7 +110,9 @@ pub extern "C" fn wentuhoro_stats(
     sums: &mut [u64],
 ) -> u64
     ensures { λ r. ⌜ _≡_ {A = Exported} (record { status = r; lent = now (sums .exit) })
-        (exported 4 (outcomeOf (answer (read (memoryOf ids slots [] [] [] [] [] (now (tallies .entry)))) counters)) (now (sums .entry))) ⌝ }
+        (exported 4 (outcomeOf (answered (ask counters) ids slots
+        (now (tallies .entry))))
+        (now (sums .entry))) ⌝ }
 {
     if sums.len() != 4 {
         return WRONG_LENGTH;
@@ -120,9 +142,17 @@ pub extern "C" fn wentuhoro_counters(
     granted: &mut [u64],
     freed: &mut [u64],
 ) -> u64
-    ensures { λ r. ⌜ r ≡ statusOf (outcomeOf (listed (now (granted .entry)) (now (freed .entry)) (answer (read (memoryOf ids slots [] [] [] [] [] (now (tallies .entry)))) counters))) ⌝ }
-    ensures { λ _. ⌜ now (granted .exit) ≡ grantedIn (listed (now (granted .entry)) (now (freed .entry)) (answer (read (memoryOf ids slots [] [] [] [] [] (now (tallies .entry)))) counters)) (now (granted .entry)) ⌝ }
-    ensures { λ _. ⌜ now (freed .exit) ≡ freedIn (listed (now (granted .entry)) (now (freed .entry)) (answer (read (memoryOf ids slots [] [] [] [] [] (now (tallies .entry)))) counters)) (now (freed .entry)) ⌝ }
+    ensures { λ r. ⌜ r ≡ statusOf (outcomeOf (listed (now (granted .entry)) (now (freed .entry))
+        (answered (ask counters) ids slots
+        (now (tallies .entry))))) ⌝ }
+    ensures { λ _. ⌜ now (granted .exit) ≡ listIn 0 (listed (now (granted .entry)) (now (freed .entry))
+        (answered (ask counters) ids slots
+        (now (tallies .entry))))
+        (now (granted .entry)) ⌝ }
+    ensures { λ _. ⌜ now (freed .exit) ≡ listIn 1 (listed (now (granted .entry)) (now (freed .entry))
+        (answered (ask counters) ids slots
+        (now (tallies .entry))))
+        (now (freed .entry)) ⌝ }
 {
     let caps = Capacities { ids, slots };
     match object_ids::counters(caps, tallies, granted, freed) {

@@ -1,13 +1,12 @@
 // A store made new: fresh, or rebuilt from its live ids and locations.
 ghost use mathlib.Core.Path.{_≡_};
 ghost use Rattle.model.specs.Store.{fresh, rebuild};
-ghost use Rattle.model.specs.Memory.{Memory, memoryOf, read};
-ghost use Rattle.model.specs.MemoryAfter.{memoryAfter};
-ghost use Rattle.model.specs.Step.{answer};
+ghost use Rattle.model.specs.Memory.{Memory};
+ghost use Rattle.model.specs.Lent.{lentTo, answered, leaves};
+ghost use Rattle.model.specs.Outcomes.{outcomeOf};
 ghost use Rattle.exports_status.specs.Status.{statusOf};
-ghost use Rattle.exports.specs.Answers.{outcomeOf};
 use exports_status::status;
-use rebuild::Rebuilt;
+use refusal::Finished;
 use tables::Capacities;
 
 // A store that holds nothing.
@@ -22,9 +21,27 @@ pub extern "C" fn wentuhoro_fresh(
     batch: &mut [u64],
     tallies: &mut [u64],
 ) -> u64
-    ensures { λ r. ⌜ r ≡ statusOf (outcomeOf (answer (read (memoryOf ids slots (now («id_marks» .entry)) (now (locations .entry)) (now («slot_marks» .entry)) (now (owners .entry)) (now (batch .entry)) (now (tallies .entry)))) fresh)) ⌝ }
-    ensures { λ _. ⌜ _≡_ {A = Memory} (memoryOf ids slots (now («id_marks» .exit)) (now (locations .exit)) (now («slot_marks» .exit)) (now (owners .exit)) (now (batch .exit)) (now (tallies .exit)))
-        (memoryAfter (memoryOf ids slots (now («id_marks» .entry)) (now (locations .entry)) (now («slot_marks» .entry)) (now (owners .entry)) (now (batch .entry)) (now (tallies .entry))) fresh) ⌝ }
+    ensures { λ r. ⌜ r ≡ statusOf (outcomeOf (answered fresh ids slots
+        (now («id_marks» .entry))
+        (now (locations .entry))
+        (now («slot_marks» .entry))
+        (now (owners .entry))
+        (now (batch .entry))
+        (now (tallies .entry)))) ⌝ }
+    ensures { λ _. ⌜ _≡_ {A = Memory} (lentTo fresh ids slots
+        (now («id_marks» .exit))
+        (now (locations .exit))
+        (now («slot_marks» .exit))
+        (now (owners .exit))
+        (now (batch .exit))
+        (now (tallies .exit)))
+        (leaves fresh ids slots
+        (now («id_marks» .entry))
+        (now (locations .entry))
+        (now («slot_marks» .entry))
+        (now (owners .entry))
+        (now (batch .entry))
+        (now (tallies .entry))) ⌝ }
 {
     let caps = Capacities { ids, slots };
     match rebuild::fresh(
@@ -36,8 +53,8 @@ pub extern "C" fn wentuhoro_fresh(
         batch,
         tallies,
     ) {
-        Rebuilt::Done => 0,
-        Rebuilt::Refused(r) => status(r),
+        Finished::Done => 0,
+        Finished::Refused(r) => status(r),
     }
 }
 
@@ -55,9 +72,32 @@ pub extern "C" fn wentuhoro_rebuild(
     row_ids: &[u64],
     row_locations: &[u64],
 ) -> u64
-    ensures { λ r. ⌜ r ≡ statusOf (outcomeOf (answer (read (memoryOf ids slots (now («id_marks» .entry)) (now (locations .entry)) (now («slot_marks» .entry)) (now (owners .entry)) (now (batch .entry)) (now (tallies .entry)))) (rebuild (now («row_ids» .entry)) (now («row_locations» .entry))))) ⌝ }
-    ensures { λ _. ⌜ _≡_ {A = Memory} (memoryOf ids slots (now («id_marks» .exit)) (now (locations .exit)) (now («slot_marks» .exit)) (now (owners .exit)) (now (batch .exit)) (now (tallies .exit)))
-        (memoryAfter (memoryOf ids slots (now («id_marks» .entry)) (now (locations .entry)) (now («slot_marks» .entry)) (now (owners .entry)) (now (batch .entry)) (now (tallies .entry))) (rebuild (now («row_ids» .entry)) (now («row_locations» .entry)))) ⌝ }
+    ensures { λ r. ⌜ r
+        ≡ statusOf (outcomeOf (answered (rebuild (record { ids = now («row_ids» .entry); locations = now («row_locations» .entry) }))
+        ids slots
+        (now («id_marks» .entry))
+        (now (locations .entry))
+        (now («slot_marks» .entry))
+        (now (owners .entry))
+        (now (batch .entry))
+        (now (tallies .entry)))) ⌝ }
+    ensures { λ _. ⌜ _≡_ {A = Memory}
+        (lentTo (rebuild (record { ids = now («row_ids» .entry); locations = now («row_locations» .entry) }))
+        ids slots
+        (now («id_marks» .exit))
+        (now (locations .exit))
+        (now («slot_marks» .exit))
+        (now (owners .exit))
+        (now (batch .exit))
+        (now (tallies .exit)))
+        (leaves (rebuild (record { ids = now («row_ids» .entry); locations = now («row_locations» .entry) }))
+        ids slots
+        (now («id_marks» .entry))
+        (now (locations .entry))
+        (now («slot_marks» .entry))
+        (now (owners .entry))
+        (now (batch .entry))
+        (now (tallies .entry))) ⌝ }
 {
     let caps = Capacities { ids, slots };
     match rebuild::rebuild(
@@ -71,7 +111,7 @@ pub extern "C" fn wentuhoro_rebuild(
         row_ids,
         row_locations,
     ) {
-        Rebuilt::Done => 0,
-        Rebuilt::Refused(r) => status(r),
+        Finished::Done => 0,
+        Finished::Refused(r) => status(r),
     }
 }

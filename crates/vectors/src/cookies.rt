@@ -1,9 +1,9 @@
 // Settings cookies.
 use crate::say;
 use crate::space::first;
+use refusal::Finished;
+use refusal::Judged;
 use settings::PersistentSettings;
-use settings::Stored;
-use settings::Verified;
 
 fn say_read(s: PersistentSettings) {
     match s {
@@ -12,10 +12,10 @@ fn say_read(s: PersistentSettings) {
     }
 }
 
-fn say_verified(v: Verified) {
+fn say_verified(v: Judged) {
     match v {
-        Verified::Agrees => say::text(b" agrees"),
-        Verified::Refused(r) => say::refusal(r),
+        Judged::Passed => say::text(b" agrees"),
+        Judged::Refused(r) => say::refusal(r),
     }
 }
 
@@ -36,8 +36,8 @@ fn lent(space: &mut [u8]) {
     say::text(b"cookie-of");
     say::number(space.len() as u64);
     match PersistentSettings::serialize(7, space) {
-        Stored::Done => say::text(b" done"),
-        Stored::Refused(r) => say::refusal(r),
+        Finished::Done => say::text(b" done"),
+        Finished::Refused(r) => say::refusal(r),
     }
     say_read(PersistentSettings::deserialize(space));
     say::end();

@@ -4,12 +4,12 @@ use crate::space::first;
 use crate::space::space;
 use frame::Slab;
 use frame::Verdict;
-use frame::Written;
+use refusal::Finished;
 
-fn say_written(w: Written) {
+fn say_written(w: Finished) {
     match w {
-        Written::Done => say::text(b" done"),
-        Written::Refused(r) => say::refusal(r),
+        Finished::Done => say::text(b" done"),
+        Finished::Refused(r) => say::refusal(r),
     }
 }
 

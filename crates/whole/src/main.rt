@@ -3,7 +3,10 @@ use address::SlabAddress;
 use address::Unpacked;
 use defrag::Defrag;
 use libc::STDOUT_FILENO;
+use tables::BATCH_WORDS;
 use tables::Capacities;
+use tables::SLABS;
+use tables::TALLY_WORDS;
 
 fn text(words: &[u8]) {
     io::write_all(STDOUT_FILENO, words);
@@ -128,10 +131,10 @@ fn list(
 fn main() {
     let mut id_marks = [0u8; 9];
     let mut locations = [0u64; 9];
-    let mut slot_marks = [0u8; 624];
-    let mut owners = [0u64; 624];
-    let mut batch = [0u64; 513];
-    let mut tallies = [0u64; 473];
+    let mut slot_marks = [0u8; SLABS * 8];
+    let mut owners = [0u64; SLABS * 8];
+    let mut batch = [0u64; BATCH_WORDS];
+    let mut tallies = [0u64; TALLY_WORDS];
     rebuild::fresh(
         caps(),
         &mut id_marks,

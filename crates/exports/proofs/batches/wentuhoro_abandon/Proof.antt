@@ -1,5 +1,5 @@
 use mathlib.Core.Path.{_∙_}
-use Rattle.abandon.specs.Abandon.{abandonedAnswer}
+use Rattle.model.specs.Store.{finishedAnswer}
 use Rattle.exports.proofs.Laws.{told-status}
 use Rattle.exports.proofs.batches.wentuhoro_abandon.Statement.{statement}
 use Rattle.exports.proofs.batches.wentuhoro_abandon.Tie as tie
@@ -28,7 +28,7 @@ same-length-3 c = search
 returns : tie.Need-returns
 returns c =
     let e = c .before .before .before .before .before .before .before .before .abandon .ensures in
-    (told-status abandonedAnswer _ _ _ (e .0) (c .enum-told .given .1), e .1)
+    (told-status finishedAnswer _ _ _ (e .0) (c .enum-told .given .1), e .1)
 
 same-length-4 : tie.Need-same-length-4
 same-length-4 c = search
@@ -42,7 +42,7 @@ same-length-6 c = search
 returns-2 : tie.Need-returns-2
 returns-2 c =
     let e = c .before .before .before .before .before .before .before .before .before .before .abandon .ensures in
-    (c .status .ensures ∙ told-status abandonedAnswer _ _ _ (e .0) (c .before .before .r .given .1), e .1)
+    (c .status .ensures ∙ told-status finishedAnswer _ _ _ (e .0) (c .before .before .r .given .1), e .1)
 
 pub wentuhoro-abandon-spec : {M : Type 1} → statement M
 wentuhoro-abandon-spec =

@@ -1,5 +1,7 @@
 use mathlib.Core.Path.{ap, _∙_}
-use Rattle.model.specs.Memory.{memoryOf}
+use Rattle.model.specs.Store.{Offer}
+use Rattle.model.specs.Lending.{everyTable}
+use Rattle.model.specs.Lent.{lentBy}
 use Rattle.offer.specs.Outcome.{Left, offerLeaves}
 use Rattle.exports.proofs.Laws.{offered-status, offer-memory}
 use Rattle.exports.proofs.batches.wentuhoro_offer.Statement.{statement}
@@ -33,9 +35,10 @@ returns : tie.Need-returns
 unfolding offerLeaves
 returns c =
     let a = c .before .before .before .before .before .before .before .before .before .before .before .before .before .before .before .before .before .before .before .before .before .before .before .before .before .args in
-    let m = memoryOf (a .ids) (a .slots) (a .id-marks .now) (a .locations .now) (a .slot-marks .now) (a .owners .now) (a .batch .now) (a .tallies .now) in
+    let m = lentBy everyTable (a .ids) (a .slots) (a .id-marks .now) (a .locations .now) (a .slot-marks .now) (a .owners .now) (a .batch .now) (a .tallies .now) in
+    let o : Offer = record { ids = a .update-ids .now; stores = a .stores .now; lengths = a .lengths .now; placed = a .placed .now } in
     let e = c .before .before .before .before .before .before .before .before .before .before .offer .ensures in
-    (offered-status (c .before .before .before .before .before .before .before .before .before .before .offer .result) _ _ _ _ _ _ e (c .enum-told .given .1), (offer-memory m (a .update-ids .now) (a .stores .now) (a .lengths .now) (a .placed .now) _ _ _ (ap (λ (w : Left). w .slotMarks) e) (ap (λ (w : Left). w .batch) e) (ap (λ (w : Left). w .tallies) e), ap (λ (w : Left). w .placed) e))
+    (offered-status (c .before .before .before .before .before .before .before .before .before .before .offer .result) _ _ _ _ _ _ e (c .enum-told .given .1), (offer-memory m o _ _ _ (ap (λ (w : Left). w .slotMarks) e) (ap (λ (w : Left). w .batch) e) (ap (λ (w : Left). w .tallies) e), ap (λ (w : Left). w .placed) e))
 
 same-length-5 : tie.Need-same-length-5
 same-length-5 c = search
@@ -53,9 +56,10 @@ returns-2 : tie.Need-returns-2
 unfolding offerLeaves
 returns-2 c =
     let a = c .before .before .before .before .before .before .before .before .before .before .before .before .before .before .before .before .before .before .before .before .before .before .before .before .before .before .before .args in
-    let m = memoryOf (a .ids) (a .slots) (a .id-marks .now) (a .locations .now) (a .slot-marks .now) (a .owners .now) (a .batch .now) (a .tallies .now) in
+    let m = lentBy everyTable (a .ids) (a .slots) (a .id-marks .now) (a .locations .now) (a .slot-marks .now) (a .owners .now) (a .batch .now) (a .tallies .now) in
+    let o : Offer = record { ids = a .update-ids .now; stores = a .stores .now; lengths = a .lengths .now; placed = a .placed .now } in
     let e = c .before .before .before .before .before .before .before .before .before .before .before .before .offer .ensures in
-    (c .status .ensures ∙ offered-status (c .before .before .before .before .before .before .before .before .before .before .before .before .offer .result) _ _ _ _ _ _ e (c .before .before .r .given .1), (offer-memory m (a .update-ids .now) (a .stores .now) (a .lengths .now) (a .placed .now) _ _ _ (ap (λ (w : Left). w .slotMarks) e) (ap (λ (w : Left). w .batch) e) (ap (λ (w : Left). w .tallies) e), ap (λ (w : Left). w .placed) e))
+    (c .status .ensures ∙ offered-status (c .before .before .before .before .before .before .before .before .before .before .before .before .offer .result) _ _ _ _ _ _ e (c .before .before .r .given .1), (offer-memory m o _ _ _ (ap (λ (w : Left). w .slotMarks) e) (ap (λ (w : Left). w .batch) e) (ap (λ (w : Left). w .tallies) e), ap (λ (w : Left). w .placed) e))
 
 pub wentuhoro-offer-spec : {M : Type 1} → statement M
 wentuhoro-offer-spec =

@@ -1,7 +1,7 @@
 use mathlib.Core.Path.{sym, ap, _∙_}
+use Rattle.refusal.specs.Outcomes.{judgedOutcome}
+use Rattle.refusal.specs.declared.Judged.{Judged}
 use Rattle.exports_status.specs.Status.{statusOf}
-use Rattle.settings.specs.declared.Verified.{Verified}
-use Rattle.settings.specs.Outcomes.{verifiedOutcome}
 use Rattle.exports.proofs.leaves.wentuhoro_cookie_verify.Statement.{statement}
 use Rattle.exports.proofs.leaves.wentuhoro_cookie_verify.Tie as tie
 
@@ -18,10 +18,10 @@ status-requires : tie.Need-status-requires
 status-requires c κs = search
 
 returns : tie.Need-returns
-returns c = sym (ap (λ (x : Verified). statusOf (verifiedOutcome x)) (sym (c .before .before .verify .ensures) ∙ c .enum-told .given .1))
+returns c = sym (ap (λ (x : Judged). statusOf (judgedOutcome x)) (sym (c .before .before .verify .ensures) ∙ c .enum-told .given .1))
 
 returns-2 : tie.Need-returns-2
-returns-2 c = c .status .ensures ∙ sym (ap (λ (x : Verified). statusOf (verifiedOutcome x)) (sym (c .before .before .before .before .verify .ensures) ∙ c .before .before .r .given .1))
+returns-2 c = c .status .ensures ∙ sym (ap (λ (x : Judged). statusOf (judgedOutcome x)) (sym (c .before .before .before .before .verify .ensures) ∙ c .before .before .r .given .1))
 
 pub wentuhoro-cookie-verify-spec : {M : Type 1} → statement M
 wentuhoro-cookie-verify-spec =

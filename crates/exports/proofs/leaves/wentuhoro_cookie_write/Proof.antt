@@ -1,8 +1,8 @@
 use mathlib.Core.Path.{_≡_, sym, ap, _∙_}
+use Rattle.refusal.specs.Outcomes.{finishedOutcome}
+use Rattle.refusal.specs.declared.Finished.{Finished}
 use Rattle.exports_status.specs.Status.{statusOf}
 use Rattle.settings.specs.Settings.{Storing}
-use Rattle.settings.specs.declared.Stored.{Stored}
-use Rattle.settings.specs.Outcomes.{storedOutcome}
 use Rattle.exports.proofs.leaves.wentuhoro_cookie_write.Statement.{statement}
 use Rattle.exports.proofs.leaves.wentuhoro_cookie_write.Tie as tie
 
@@ -24,7 +24,7 @@ same-length c = search
 returns : tie.Need-returns
 returns c =
     let e : c .before .before .before .before .serialize .result ≡ _ = ap (λ (w : Storing). w .answer) (c .before .before .before .before .serialize .ensures) in
-    (sym (ap (λ (x : Stored). statusOf (storedOutcome x)) (sym e ∙ c .enum-told .given .1)), ap (λ (w : Storing). w .cookie) (c .before .before .before .before .serialize .ensures))
+    (sym (ap (λ (x : Finished). statusOf (finishedOutcome x)) (sym e ∙ c .enum-told .given .1)), ap (λ (w : Storing). w .cookie) (c .before .before .before .before .serialize .ensures))
 
 same-length-2 : tie.Need-same-length-2
 same-length-2 c = search
@@ -32,7 +32,7 @@ same-length-2 c = search
 returns-2 : tie.Need-returns-2
 returns-2 c =
     let e : c .before .before .before .before .before .before .serialize .result ≡ _ = ap (λ (w : Storing). w .answer) (c .before .before .before .before .before .before .serialize .ensures) in
-    (c .status .ensures ∙ sym (ap (λ (x : Stored). statusOf (storedOutcome x)) (sym e ∙ c .before .before .r .given .1)), ap (λ (w : Storing). w .cookie) (c .before .before .before .before .before .before .serialize .ensures))
+    (c .status .ensures ∙ sym (ap (λ (x : Finished). statusOf (finishedOutcome x)) (sym e ∙ c .before .before .r .given .1)), ap (λ (w : Storing). w .cookie) (c .before .before .before .before .before .before .serialize .ensures))
 
 pub wentuhoro-cookie-write-spec : {M : Type 1} → statement M
 wentuhoro-cookie-write-spec =

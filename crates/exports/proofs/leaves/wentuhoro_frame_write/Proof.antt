@@ -1,8 +1,8 @@
 use mathlib.Core.Path.{_≡_, sym, ap, _∙_}
+use Rattle.refusal.specs.Outcomes.{finishedOutcome}
+use Rattle.refusal.specs.declared.Finished.{Finished}
 use Rattle.exports_status.specs.Status.{statusOf}
 use Rattle.frame.specs.Frame.{Writing}
-use Rattle.frame.specs.declared.Written.{Written}
-use Rattle.frame.specs.Outcomes.{writtenOutcome}
 use Rattle.exports.proofs.leaves.wentuhoro_frame_write.Statement.{statement}
 use Rattle.exports.proofs.leaves.wentuhoro_frame_write.Tie as tie
 
@@ -24,7 +24,7 @@ same-length c = search
 returns : tie.Need-returns
 returns c =
     let e : c .before .before .before .before .write .result ≡ _ = ap (λ (w : Writing). w .answer) (c .before .before .before .before .write .ensures) in
-    (sym (ap (λ (x : Written). statusOf (writtenOutcome x)) (sym e ∙ c .enum-told .given .1)), ap (λ (w : Writing). w .slot) (c .before .before .before .before .write .ensures))
+    (sym (ap (λ (x : Finished). statusOf (finishedOutcome x)) (sym e ∙ c .enum-told .given .1)), ap (λ (w : Writing). w .slot) (c .before .before .before .before .write .ensures))
 
 same-length-2 : tie.Need-same-length-2
 same-length-2 c = search
@@ -32,7 +32,7 @@ same-length-2 c = search
 returns-2 : tie.Need-returns-2
 returns-2 c =
     let e : c .before .before .before .before .before .before .write .result ≡ _ = ap (λ (w : Writing). w .answer) (c .before .before .before .before .before .before .write .ensures) in
-    (c .status .ensures ∙ sym (ap (λ (x : Written). statusOf (writtenOutcome x)) (sym e ∙ c .before .before .r .given .1)), ap (λ (w : Writing). w .slot) (c .before .before .before .before .before .before .write .ensures))
+    (c .status .ensures ∙ sym (ap (λ (x : Finished). statusOf (finishedOutcome x)) (sym e ∙ c .before .before .r .given .1)), ap (λ (w : Writing). w .slot) (c .before .before .before .before .before .before .write .ensures))
 
 pub wentuhoro-frame-write-spec : {M : Type 1} → statement M
 wentuhoro-frame-write-spec =

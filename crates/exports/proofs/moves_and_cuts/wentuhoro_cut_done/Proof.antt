@@ -1,5 +1,5 @@
 use mathlib.Core.Path.{_∙_}
-use Rattle.truncation.specs.Truncations.{reportedAnswer}
+use Rattle.model.specs.Store.{finishedAnswer}
 use Rattle.exports.proofs.Laws.{told-status}
 use Rattle.exports.proofs.moves_and_cuts.wentuhoro_cut_done.Statement.{statement}
 use Rattle.exports.proofs.moves_and_cuts.wentuhoro_cut_done.Tie as tie
@@ -22,7 +22,7 @@ same-length c = search
 returns : tie.Need-returns
 returns c =
     let e = c .before .before .before .before .cut-done .ensures in
-    (told-status reportedAnswer _ _ _ (e .0) (c .enum-told .given .1), e .1)
+    (told-status finishedAnswer _ _ _ (e .0) (c .enum-told .given .1), e .1)
 
 same-length-2 : tie.Need-same-length-2
 same-length-2 c = search
@@ -30,7 +30,7 @@ same-length-2 c = search
 returns-2 : tie.Need-returns-2
 returns-2 c =
     let e = c .before .before .before .before .before .before .cut-done .ensures in
-    (c .status .ensures ∙ told-status reportedAnswer _ _ _ (e .0) (c .before .before .r .given .1), e .1)
+    (c .status .ensures ∙ told-status finishedAnswer _ _ _ (e .0) (c .before .before .r .given .1), e .1)
 
 pub wentuhoro-cut-done-spec : {M : Type 1} → statement M
 wentuhoro-cut-done-spec =

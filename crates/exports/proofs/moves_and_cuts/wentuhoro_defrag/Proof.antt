@@ -1,9 +1,6 @@
-use mathlib.Core.Path.{sym, ap, _∙_}
-use Rattle.refusal.specs.Outcomes.{Outcome}
-use Rattle.defrag.specs.declared.Defrag.{Defrag}
-use Rattle.exports_status.specs.Status.{statusOf, valuesIn}
-use Rattle.exports.specs.Answers.{outcomeOf}
-use Rattle.exports.proofs.Laws.{exported-short, exported-is, one-word, whereFits-short, whereFits-fits, countOf, defrag-outcome}
+use mathlib.Core.Path.{refl, sym, _∙_}
+use Rattle.defrag.specs.Outcomes.{defragOutcome}
+use Rattle.exports.proofs.Laws.{exported-short, said-exported, one-word, whereFits-short, whereFits-fits}
 use borrow.Author.Needs.{needs}
 use Rattle.exports.proofs.moves_and_cuts.wentuhoro_defrag.Statement.{statement}
 use Rattle.exports.proofs.moves_and_cuts.wentuhoro_defrag.Tie as tie
@@ -41,9 +38,8 @@ returns-2 : tie.Need-returns-2
 returns-2 c =
     let lent = c .before .before .before .before .before .before .before .before .before .before .before .before .before .before .before .before .before .before .before .args .count .now in
     let h = c .before .before .before .before .before .before .before .before .before .before .if1 .left in
-    let e = c .before .before .before .before .before .before .before .objects-to-defrag .ensures in
-    let t = defrag-outcome _ _ _ _ ∙ ap (λ (x : Defrag). outcomeOf (countOf x)) (sym (e .0) ∙ c .before .rows .given .1) in (
-      exported-is 1 lent _ _ _ h (ap (λ (o : Outcome). statusOf o) t) (ap (λ (o : Outcome). valuesIn o lent) t ∙ one-word lent _ h),
+    let e = c .before .before .before .before .before .before .before .objects-to-defrag .ensures in (
+      said-exported defragOutcome _ _ _ (e .0) (c .before .rows .given .1) 1 lent _ _ h refl (one-word lent _ h),
       (e .1 ∙ whereFits-fits 1 lent _ _ h, e .2 ∙ whereFits-fits 1 lent _ _ h),
     )
 
@@ -57,9 +53,8 @@ returns-3 : tie.Need-returns-3
 returns-3 c =
     let lent = c .before .before .before .before .before .before .before .before .before .before .before .before .before .before .before .before .before .before .before .before .args .count .now in
     let h = c .before .before .before .before .before .before .before .before .before .before .before .if1 .left in
-    let e = c .before .before .before .before .before .before .before .before .objects-to-defrag .ensures in
-    let t = defrag-outcome _ _ _ _ ∙ ap (λ (x : Defrag). outcomeOf (countOf x)) (sym (e .0) ∙ c .before .before .r .given .1) in (
-      exported-is 1 lent _ _ _ h (ap (λ (o : Outcome). statusOf o) t ∙ sym (c .status .ensures)) (ap (λ (o : Outcome). valuesIn o lent) t),
+    let e = c .before .before .before .before .before .before .before .before .objects-to-defrag .ensures in (
+      said-exported defragOutcome _ _ _ (e .0) (c .before .before .r .given .1) 1 lent _ _ h (sym (c .status .ensures)) refl,
       (e .1 ∙ whereFits-fits 1 lent _ _ h, e .2 ∙ whereFits-fits 1 lent _ _ h),
     )
 
