@@ -88,7 +88,7 @@ pub record Rows : Type 0 where
   pub ids : List ℕ
   pub locations : List ℕ
 
--- What only looks, and leaves the store as it is. crate model's Questions says of each what it is lent, refused and granted.
+-- What only looks, and leaves the store as it is. Lending says of each what it is lent, Questions when it is refused and what it grants.
 pub data Question : Type 0 where
   lookup : ℕ → Question
   counters : Question
