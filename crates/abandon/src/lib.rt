@@ -17,7 +17,7 @@ ghost use Rattle.model.specs.Tables.{locationsOf};
 ghost use Rattle.model.specs.Memory.{Memory, read};
 ghost use Rattle.model.specs.MemoryAfter.{Slots, giveSlot, giveSlots};
 ghost use Rattle.model.specs.Step.{refusal};
-ghost use Rattle.batch_kept.specs.Kept.{keptFrom, badKeptRow, firstBad, rowsAs};
+ghost use Rattle.batch_kept.specs.Kept.{keptFrom, rowsAs};
 ghost use Rattle.model.specs.Lent.{lentTo, answered, leaves};
 use address::SlabAddress;
 use address::Unpacked;

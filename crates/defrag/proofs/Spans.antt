@@ -8,8 +8,7 @@ use native.Mathlib.Nat.{mul-le-mul-left}
 use native.Mathlib.Omega.{arith}
 use lib.Dec.{ltb}
 use native.Mathlib.Numerals.{add-one}
-use lib.ListN.{length, take, drop, length-drop, length-take}
-use lib.Seq.{length-take-le}
+use lib.ListN.{length, take, drop, length-take}
 use lib.Ieee.{Float}
 use borrow.Author.Tests.{le-ltb, ltb-false, lt-leb}
 use Rattle.address.specs.Address.{badSlots, packed, packing, slabs, locationIn, mostSlots}

@@ -20,7 +20,7 @@ use Rattle.model.specs.Ids.{bumpPending}
 use Rattle.model.specs.Lending.{lentFit, sized}
 use Rattle.model.specs.Questions.{askRefusal, reply}
 use Rattle.model.specs.Step.{state, answer, next, refusalOf, refusal, grant, effect}
-use Rattle.model.specs.Store.{lookup, Call, newId, offer, commit, release, ask}
+use Rattle.model.specs.Store.{lookup, Call, newId, commit, release, ask}
 use Rattle.model.specs.Tables.{badIds, heldId, locationOf, inIds}
 use Rattle.model.specs.Verdict.{_⨾_, test}
 use Rattle.histories.specs.Statements.{AtRest, RebuildMet, AbandonMet}

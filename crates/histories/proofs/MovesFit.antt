@@ -21,7 +21,7 @@ use Rattle.fragmentation.proofs.LawsCutoff.{cutoff-le}
 use Rattle.model.specs.Defrag.{movesIn, movable, consIf, slabMoves, movesFrom, allMoves}
 use Rattle.model.specs.Rebuild.{heldBy}
 use Rattle.model.specs.Store.{Store, Row}
-use Rattle.model.specs.Tables.{inIds, locationOf, slotPlace, capacities, slabTip, live, idsOf}
+use Rattle.model.specs.Tables.{inIds, locationOf, capacities, slabTip, live, idsOf}
 use Rattle.model.proofs.Sizes.{capacities-range}
 use Rattle.model.proofs.Lists.{zeros}
 use Rattle.histories.specs.Statements.{MovesFit}

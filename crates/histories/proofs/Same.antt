@@ -20,7 +20,7 @@ use Rattle.model.specs.Questions.{askRefusal}
 use Rattle.model.specs.Rebuild.{rows, rowsIn}
 use Rattle.model.specs.Step.{refusalOf, refusal, slabRefusal}
 use Rattle.model.specs.Store.{Store, Update, Row, Offer, Rows, Question, lookup, counters, defrag, Call, newId, release, offer, commit, abandon, rebuild}
-use Rattle.model.specs.Tables.{mostUpdates, mostOpened, slotPlace, kept, badLocation, locationOf, badAt, isOpen, inIds, heldId}
+use Rattle.model.specs.Tables.{mostUpdates, mostOpened, kept, badLocation, locationOf, badAt, isOpen, inIds, heldId}
 use Rattle.model.specs.Tests.{shape, lists, asLong, noneOpen, oneOpen}
 use Rattle.model.specs.Truncation.{highMark, isTarget}
 use Rattle.model.specs.Verdict.{test, _⨾_}

@@ -19,7 +19,7 @@ use Rattle.fragmentation.specs.Cutoff.{cutoff}
 use Rattle.fragmentation.proofs.LawsCutoff.{cutoff-le}
 use Rattle.model.specs.Defrag.{movesIn, movable, consIf, slabMoves, movesFrom, allMoves}
 use Rattle.model.specs.Store.{Store, Row}
-use Rattle.model.specs.Tables.{slotPlace, locationOf, inIds, live, slabTip}
+use Rattle.model.specs.Tables.{locationOf, inIds, live, slabTip}
 use Rattle.model.proofs.Sizes.{sized-sizes}
 use Rattle.model.proofs.Locations.{slotPlace-packing}
 use Rattle.histories.specs.Invariant.{Inv, Located}

@@ -24,9 +24,9 @@ use Rattle.model.specs.Ids.{nextId}
 use Rattle.model.specs.Step.{answer, grant, refusalOf, refusal, answerBy}
 use Rattle.model.specs.Store.{free, Update, Store, placed, put, offer, newId, gave}
 use Rattle.refusal.specs.Outcomes.{granted, refused}
-use Rattle.model.specs.Tables.{slotPlace, write}
+use Rattle.model.specs.Tables.{write}
 use Rattle.model.specs.Verdict.{ok, test, Verdict, refuse, _⨾_}
-use Rattle.model.proofs.Granted.{offer-granted, granted-sizes, new-id-granted}
+use Rattle.model.proofs.Granted.{offer-granted, new-id-granted}
 use Rattle.model.proofs.Locations.{isLocation-packing, slotPlace-packing}
 use Rattle.model.proofs.Writes.{write-set}
 use Rattle.model.proofs.Verdicts.{then-ok, test-ok, first-ok}

@@ -5,12 +5,12 @@ use mathlib.Core.Bool.{true, cond, Bool, false}
 use mathlib.Core.List.{List, [], _∷_}
 use Prim.Native.Nat.{ℕ, _<_, _/_, suc, _%_, _*_, _+_, pred}
 use native.Mathlib.Omega.{arith}
-use lib.ListN.{set, length}
-use Rattle.address.specs.Address.{isLocation, unit, slabs}
-use Rattle.model.specs.Memory.{batchOf, Memory}
-use Rattle.model.specs.MemoryAfter.{Slots, slotsOf}
-use Rattle.model.specs.Tables.{write, capacities, shut}
-use Rattle.model.proofs.Steps.{Stepped, slotsRead, still, Fits}
+use lib.ListN.{set}
+use Rattle.address.specs.Address.{isLocation, unit}
+use Rattle.model.specs.Memory.{batchOf}
+use Rattle.model.specs.MemoryAfter.{Slots}
+use Rattle.model.specs.Tables.{write, shut}
+use Rattle.model.proofs.Steps.{Stepped, slotsRead, still}
 use Rattle.model.proofs.Locations.{isLocation-says}
 use Rattle.model.proofs.Writes.{write-set, write-none}
 

@@ -1,6 +1,6 @@
 -- That the tables have their lengths: one record, for the tables that are lent. A granted call has it (Granted), a test of lengths tells it
 -- (sizes-read), and of a memory it says how long the lent words are. Assumes nothing.
-use mathlib.Core.Path.{_≡_, refl, sym, ap, _∙_}
+use mathlib.Core.Path.{_≡_, refl, ap, _∙_}
 use mathlib.Core.Bool.{Bool, true, false, not, _&&_}
 use Prim.Native.Nat.{ℕ, _≤_, _*_}
 use native.Mathlib.Omega.{arith}

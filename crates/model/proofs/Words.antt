@@ -1,20 +1,16 @@
 -- Laws of the words of the tallies: a word written is read in its own list, and every other list stays. Assumes nothing.
 use mathlib.Core.Path.{_≡_, _∙_, sym, refl, ap}
 use mathlib.Core.Logic.{_≢_}
-use mathlib.Core.Bool.{true, _&&_}
 use mathlib.Core.List.{List}
 use Prim.Native.Nat.{ℕ, _<_, _*_, _+_, zero, suc, _%_, _^_}
 use native.Mathlib.Omega.{arith}
-use lib.Dec.{eqb}
 use lib.ListN.{length, set, drop, length-take, length-drop, length-set}
 use lib.Seq.{getD-set-same, getD-set-other, drop-set-lt, ext-getD, drop-set-add}
-use borrow.Author.Tests.{eqb-true}
-use Rattle.refusal.proofs.Tests.{and-true}
 use Rattle.list_parts.specs.Parts.{part}
 use Rattle.list_parts.proofs.Parts.{part-here, part-there, length-part, part-at}
-use Rattle.model.specs.Memory.{getWord, wordAt, putWord, talliesOf, grantedWords, freedWords, usedWords, hintWords, waitingWords, highWords, Memory, read}
-use Rattle.model.specs.Store.{talliesFrom, Store}
-use Rattle.model.specs.Tables.{bump, talliesFit, batchFits}
+use Rattle.model.specs.Memory.{getWord, wordAt, putWord, talliesOf, grantedWords, freedWords, usedWords, hintWords, waitingWords, highWords}
+use Rattle.model.specs.Store.{talliesFrom}
+use Rattle.model.specs.Tables.{bump}
 use Rattle.model.proofs.Writes.{bump-other}
 
 -- ---- one word

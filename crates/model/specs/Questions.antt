@@ -1,7 +1,7 @@
 -- The calls that only look: when each is refused once its tables fit, what it grants, and whether the answer remembers history, which
 -- demand 3 excepts. Assumes nothing.
 use mathlib.Core.Bool.{Bool, true, false, not, _&&_, _||_}
-use Prim.Native.Nat.{ℕ, suc}
+use Prim.Native.Nat.{suc}
 use lib.Dec.{eqb}
 use lib.ListN.{length}
 use Rattle.refusal.specs.Refusals.{noSuchId, tablesDisagree, ratioOutOfRange}

@@ -1,14 +1,13 @@
 -- Document 01, "Refusal numbers": the tests that several calls begin with. Assumes nothing.
 use mathlib.Core.Bool.{Bool, not, _&&_}
 use mathlib.Core.List.{List}
-use Prim.Native.Nat.{ℕ, suc}
 use lib.Dec.{ltb, eqb}
 use lib.ListN.{length}
 use Rattle.refusal.specs.Refusals.{wrongShape, batchOpen, noBatch, tablesDisagree}
 use Rattle.model.specs.Store.{Store, Call}
 use Rattle.model.specs.Verdict.{Verdict, _⨾_, test}
 use Rattle.model.specs.Tables.{mostOpened, capacities, isOpen}
-use Rattle.model.specs.Lending.{Lending, lentFit, lendingOf}
+use Rattle.model.specs.Lending.{lentFit, lendingOf}
 
 -- the capacities, and the tables that the call is lent
 abbrev pub shape : Store → Call → Verdict

@@ -15,7 +15,7 @@ ghost use Rattle.address.specs.Address.{slabs};
 ghost use Rattle.marks.specs.Marks.{isFree, countIf};
 ghost use Rattle.id_allocator.specs.Counted.{hinted};
 ghost use Rattle.model.specs.Verdict.{judgedVerdict};
-ghost use Rattle.offer_room.specs.Room.{freeIn, roomIn, tallied, noneAsked, roomInAll};
+ghost use Rattle.offer_room.specs.Room.{freeIn, tallied, noneAsked, roomInAll};
 use refusal::Judged;
 use refusal::Refusal;
 use tables::HINT;
