@@ -8,7 +8,7 @@ use native.Mathlib.Decide.{decLt}
 use borrow.Author.Count.{below-more}
 use lib.ListN.{length, getD, replicate, getD-replicate, length-replicate, take, drop, set, length-drop, length-take, List·getD-eq-default}
 use lib.Seq.{getD-set-same, getD-set-other, getD-take, ext-getD, length-take-le}
-use Rattle.little_endian.proofs.Laws.{Bytes}
+use Rattle.little_endian.specs.LittleEndian.{Bytes}
 use Rattle.crc_blocks.proofs.Pending.{window-at}
 
 pub below : (f : ℕ → ℕ) (t : List ℕ) (j x : ℕ) → j < length t → x ≡ f j → ((k : ℕ) → k < j → getD t k 0 ≡ f k)

@@ -9,8 +9,8 @@ use lib.Bits.{bitXor, xor-block, xor-lt, xor-shifted, xor-comm}
 use native.Mathlib.Decide.{decLt}
 use lib.ListN.{length, getD, take, drop, set, length-drop, List·getD-eq-default}
 use lib.Seq.{drop-cons, drop-set-add, take-suc-set, length-take-le, getD-take, getD-drop}
-use Rattle.little_endian.specs.LittleEndian.{word}
-use Rattle.little_endian.proofs.Laws.{Bytes, take-bytes, drop-bytes, word-cons}
+use Rattle.little_endian.specs.LittleEndian.{Bytes, word}
+use Rattle.little_endian.proofs.Laws.{take-bytes, drop-bytes, word-cons}
 use Rattle.crc_steps.specs.Crc32.{steps, crcOver}
 use Rattle.crc_words.specs.Fold.{left}
 use Rattle.crc_blocks.specs.Sparse.{pend}

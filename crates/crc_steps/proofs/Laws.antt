@@ -6,8 +6,7 @@ use Prim.Native.Nat.{ℕ, suc, _+_, _*_, _^_, _<_}
 use native.Mathlib.Omega.{arith}
 use lib.ListN.{length, getD}
 use lib.Bits.{bitXor, xor-lt, xor-zero-r}
-use Rattle.little_endian.specs.LittleEndian.{word}
-use Rattle.little_endian.proofs.Laws.{Bytes}
+use Rattle.little_endian.specs.LittleEndian.{Bytes, word}
 use Rattle.crc_steps.specs.Crc32.{step, steps, crcOver, crc32}
 use Rattle.crc_steps.proofs.Linear.{read-in, steps-lt, steps-zero}
 

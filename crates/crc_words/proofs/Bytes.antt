@@ -10,8 +10,8 @@ use lib.Pow.{pow-add}
 use lib.Bits.{bitXor, xor-block, xor-lt, xor-shifted}
 use lib.ListN.{length, getD, drop, length-drop}
 use lib.Seq.{getD-drop, drop-append-le}
-use Rattle.little_endian.specs.LittleEndian.{word}
-use Rattle.little_endian.proofs.Laws.{Bytes, drop-bytes}
+use Rattle.little_endian.specs.LittleEndian.{Bytes, word}
+use Rattle.little_endian.proofs.Laws.{drop-bytes}
 use Rattle.crc_steps.proofs.Xor.{four}
 
 -- 2 ^ (8 * suc l) is 256 times as much

@@ -7,10 +7,10 @@ use native.Mathlib.Nat.{mod-lt, add-mul, mul-right-comm, mul-div-mul-right, mul-
 use native.Mathlib.Omega.{arith}
 use lib.Pow.{pow-pos, pow-add, split, high, shr-shr}
 use lib.Bits.{bitXor, xor-shifted, xor-comm}
-use lib.ListN.{length, getD, take, drop, length-drop, drop-of-length-le}
-use lib.Seq.{drop-drop, getD-drop, take-all}
-use Rattle.little_endian.specs.LittleEndian.{word}
-use Rattle.little_endian.proofs.Laws.{Bytes, drop-bytes, word-cons}
+use lib.ListN.{length, take, drop, length-drop, drop-of-length-le}
+use lib.Seq.{drop-drop, getD-drop, take-all, take-take}
+use Rattle.little_endian.specs.LittleEndian.{Bytes, word}
+use Rattle.little_endian.proofs.Laws.{drop-bytes, word-split}
 use Rattle.crc_steps.specs.Crc32.{steps, crcOver}
 use Rattle.crc_words.specs.Fold.{up, over, num, Turn, left}
 use Rattle.crc_steps.proofs.Linear.{steps-add, steps-shift, steps-zero}
@@ -123,13 +123,13 @@ fewer s h r p w a b c d e l lr f t la =
     let v : num a b c d e ≡ a = small a b c d e la (rw z (crcOver-lt r s lr h)) in
     (sym v ∙ z, subst (λ (x : ℕ). x < 2 ^ 32) (sym z ∙ v) (crcOver-lt r s lr h))
 
--- two bytes at a time, and the same place written otherwise
-pub word-at : (s : List ℕ) (i j : ℕ) → i ≡ j → word (drop i s) ≡ word (drop j s)
-word-at s i j e = ap (λ (k : ℕ). word (drop k s)) e
+-- the eight bytes at i, as a range says them
+pub word-eight : (s : List ℕ) (i r : ℕ) → r ≡ word (take 8 (take (i + 8 - i) (drop i s))) → word (drop i s) ≡ word (drop (i + 8) s) * 2 ^ 64 + r
+word-eight s i r e =
+    let n : take 8 (take (i + 8 - i) (drop i s)) ≡ take 8 (drop i s) = take-take 8 (i + 8 - i) (drop i s) (omega arith) in
+    word-split 8 (drop i s) ∙ ap₂ (λ (x y : ℕ). x * 2 ^ 64 + y) (ap word (drop-drop 8 i s)) (sym (e ∙ ap word n))
 
-pub word-two : (s : List ℕ) (i : ℕ) → i + 2 ≤ length s → word (drop i s) ≡ word (drop (i + 2) s) * 2 ^ 16 + (getD s i 0 + getD s (i + 1) 0 * 256)
-word-two s i l = omega (arith, word-cons s i (omega arith), word-cons s (i + 1) (omega arith), word-at s ((i + 1) + 1) (i + 2) (omega arith))
-
+-- the same place written otherwise
 pub left-at : (s : List ℕ) (z i j : ℕ) → i ≡ j → left s i z ≡ left s j z
 left-at s z i j e = ap (λ (k : ℕ). left s k z) e
 

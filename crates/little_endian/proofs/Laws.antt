@@ -3,18 +3,14 @@ use mathlib.Core.Path.{_≡_, refl, sym, ap, _∙_}
 use mathlib.Core.List.{List, [], _∷_, _++_, append-nil, append-assoc}
 use Prim.Native.Nat.{ℕ, zero, suc, _+_, _-_, _*_, _/_, _%_, _^_, _≤_, _<_, min}
 use native.Mathlib.Numerals.{add-one}
-use native.Mathlib.Nat.{pow-suc, pow-le-pow-right, lt-of-lt-of-le}
+use native.Mathlib.Nat.{zero-mul, mul-assoc, pow-suc, pow-le-pow-right, lt-of-lt-of-le}
 use native.Mathlib.Omega.{arith}
 use lib.ListN.{length, getD, take, drop, set, replicate, length-take, length-drop, length-append, drop-of-length-le}
 use lib.Seq.{drop-cons, take-suc-set, append-snoc, take-all, getD-take, getD-drop, take-at, drop-at, drop-drop, take-append-seam, drop-append-seam}
 use lib.Dec.{lit<}
 use mathlib.Core.Bool.{true}
 use borrow.Author.Tests.{le-leb}
-use Rattle.little_endian.specs.LittleEndian.{word, bytesOf, isPart, getAt, putAt}
-
--- every element is a byte
-abbrev pub Bytes : List ℕ → Type 0
-Bytes l = (k : ℕ) → getD l k 0 < 2 ^ 8
+use Rattle.little_endian.specs.LittleEndian.{Bytes, word, bytesOf, isPart, getAt, putAt}
 
 pub tail-bytes : (b : ℕ) (bs : List ℕ) → Bytes (b ∷ bs) → Bytes bs
 tail-bytes b bs h k = h (suc k)
@@ -42,6 +38,30 @@ zero-bytes (suc n) (suc k) = zero-bytes n k
 pub word-cons : (l : List ℕ) (i : ℕ) → i < length l → word (drop i l) ≡ word (drop (i + 1) l) * 256 + getD l i 0
 unfolding word
 word-cons l i h = rw (drop-cons l i 0, add-one)
+
+pub word-at : (l : List ℕ) (i j : ℕ) → i ≡ j → word (drop i l) ≡ word (drop j l)
+word-at l i j e = ap (λ (k : ℕ). word (drop k l)) e
+
+pub word-two : (l : List ℕ) (i : ℕ) → i + 2 ≤ length l → word (drop i l) ≡ word (drop (i + 2) l) * 2 ^ 16 + (getD l i 0 + getD l (i + 1) 0 * 256)
+word-two l i h = omega (arith, word-cons l i (omega arith), word-cons l (i + 1) (omega arith), word-at l ((i + 1) + 1) (i + 2) (omega arith))
+
+-- the first k bytes are the lower part
+pub word-split : (k : ℕ) (l : List ℕ) → word l ≡ word (drop k l) * 256 ^ k + word (take k l)
+unfolding word
+word-split zero l = omega arith
+word-split (suc k) [] = omega arith
+word-split (suc k) (b ∷ bs) =
+    let e : 256 ^ suc k ≡ 256 ^ k * 256 = pow-suc 256 k in
+    rw (e, ← mul-assoc (word (drop k bs)) (256 ^ k) 256) (omega (arith, word-split k bs))
+
+-- so many bytes and no more
+pub word-whole : (l : List ℕ) (k p r : ℕ) → length l ≡ k → k ≤ 8 → word (drop 0 l) ≡ word (drop (0 + k) l) * p + r → r ≡ word (take 8 l)
+unfolding word
+word-whole l k p r n h e =
+    let f : length l ≤ 0 + k = omega arith in
+    let g : length l ≤ 8 = omega arith in
+    let z : word (drop (0 + k) l) * p ≡ 0 = ap (λ (x : List ℕ). word x * p) (drop-of-length-le l f) ∙ zero-mul p in
+    rw (take-all 8 l g) (omega (arith, e, z))
 
 pub word-lt : (l : List ℕ) → Bytes l → word l < 256 ^ length l
 unfolding word
@@ -102,11 +122,11 @@ bytesOf-done l i rest h =
     rw (e, take-all i l h) (append-nil l)
 
 -- ---- the number in the first eight bytes, read from the highest down
-pub eight-end : (l : List ℕ) → 0 ≡ word (drop (min 8 (length l)) (take 8 l))
+pub eight-end : (l : List ℕ) → length l < 8 → 0 ≡ word (drop (length l) (take 8 l))
 unfolding word
-eight-end l =
-    let past : length (take 8 l) ≤ min 8 (length l) = rw (length-take 8 l) (omega arith) in
-    rw (drop-of-length-le (take 8 l) past)
+eight-end l h =
+    let n : length (take 8 l) ≤ length l = rw (length-take 8 l) (omega arith) in
+    rw (drop-of-length-le (take 8 l) n)
 
 pub eight-turn : (l : List ℕ) (i : ℕ) → 0 < i → i ≤ min 8 (length l)
     → word (drop i (take 8 l)) * 256 + getD l (i - 1) 0 ≡ word (drop (i - 1) (take 8 l))

@@ -5,36 +5,72 @@
 //
 // The part's length is the number's width, so that one function serves the widths 1, 2, 4 and 8.
 ghost use mathlib.Core.Path.{_≡_};
-ghost use Prim.Native.Nat.{min};
-ghost use lib.ListN.{length, take};
+ghost use Prim.Native.Nat.{_+_, _*_, _<_, _≤_, _^_};
+ghost use lib.ListN.{length, take, drop};
 ghost use Rattle.little_endian.specs.LittleEndian.{word, bytesOf, getAt, putAt};
 
 // As many bytes as make a u64.
 const WIDEST: usize = 8;
 
 fn wide(byte: u8) -> u64
-    ensures { λ r. ⌜ r ≡ byte ⌝ }
+    ensures { λ r. ⌜ (r ≡ byte) × (r < 256) ⌝ }
 {
     byte as u64
 }
 
-fn at_most_widest(count: usize) -> usize
-    ensures { λ r. ⌜ r ≡ min 8 count ⌝ }
+// Two bytes from `at` on, four, and the first eight. LLVM makes one load of each.
+fn pair(bytes: &[u8], at: usize) -> u64
+    requires { ⌜ at + 2 ≤ length (now bytes) ⌝ }
+    ensures { λ r. ⌜ (r < 2 ^ 16) × (word (drop at (now (bytes .entry))) ≡ word (drop (at + 2) (now (bytes .entry))) * 2 ^ 16 + r) ⌝ }
 {
-    if count < WIDEST { count } else { WIDEST }
+    wide(bytes[at]) + wide(bytes[at + 1]) * 256
 }
 
-// The number in `bytes`; where there are more than eight, in the first eight.
-pub fn get(bytes: &[u8]) -> u64
+fn four(bytes: &[u8], at: usize) -> u64
+    requires { ⌜ at + 4 ≤ length (now bytes) ⌝ }
+    ensures { λ r. ⌜ (r < 2 ^ 32) × (word (drop at (now (bytes .entry))) ≡ word (drop (at + 4) (now (bytes .entry))) * 2 ^ 32 + r) ⌝ }
+{
+    pair(bytes, at) + pair(bytes, at + 2) * 65536
+}
+
+fn eight(bytes: &[u8]) -> u64
+    requires { ⌜ 8 ≤ length (now bytes) ⌝ }
     ensures { λ r. ⌜ r ≡ word (take 8 (now (bytes .entry))) ⌝ }
 {
-    let mut left = at_most_widest(bytes.len());
+    four(bytes, 0) + four(bytes, 4) * 4294967296
+}
+
+// The number in fewer bytes, one after the other.
+fn gather(bytes: &[u8]) -> u64
+    requires { ⌜ length (now bytes) < 8 ⌝ }
+    ensures { λ r. ⌜ r ≡ word (take 8 (now (bytes .entry))) ⌝ }
+{
+    let mut left = bytes.len();
     let mut number = 0u64;
     while 0 < left {
         left -= 1;
         number = number * 256 + wide(bytes[left]);
     }
     number
+}
+
+// The number in `bytes`; where there are more than eight, in the first eight.
+pub fn get(bytes: &[u8]) -> u64
+    ensures { λ r. ⌜ r ≡ word (take 8 (now (bytes .entry))) ⌝ }
+{
+    if WIDEST <= bytes.len() {
+        return eight(bytes);
+    }
+    if bytes.len() == 4 {
+        return four(bytes, 0);
+    }
+    if bytes.len() == 2 {
+        return pair(bytes, 0);
+    }
+    if bytes.len() == 1 {
+        return wide(bytes[0]);
+    }
+    gather(bytes)
 }
 
 // Writes the lowest bytes of `number` over all of `bytes`.

@@ -9,8 +9,8 @@ use lib.Dec.{lit<}
 use lib.ListN.{length, length-append, length-drop, take-append-drop}
 use lib.Seq.{take-at, drop-at}
 use borrow.Author.Tests.{eq-eqb, eqb-true}
-use Rattle.little_endian.specs.LittleEndian.{word, bytesOf}
-use Rattle.little_endian.proofs.Laws.{Bytes, append-bytes, drop-bytes, length-bytesOf, bytesOf-bytes, word-bytesOf, bytesOf-word}
+use Rattle.little_endian.specs.LittleEndian.{Bytes, word, bytesOf}
+use Rattle.little_endian.proofs.Laws.{append-bytes, drop-bytes, length-bytesOf, bytesOf-bytes, word-bytesOf, bytesOf-word}
 use Rattle.sizes.specs.Sizes.{checkWidth}
 use Rattle.crc_steps.proofs.Laws.{crc32-lt}
 use Rattle.seal.specs.Seal.{checkOf, signed, bodyOf, tailOf, isSigned, resigned}

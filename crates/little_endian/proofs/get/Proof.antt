@@ -1,77 +1,59 @@
-use mathlib.Core.Path.{_≡_, _∙_}
-use Prim.Native.Nat.{ℕ, _-_, _≤_, _<_, _^_, min}
+use mathlib.Core.Path.{_∙_}
+use Prim.Native.Nat.{_^_}
 use native.Mathlib.Omega.{arith}
-use lib.ListN.{length, getD, take, drop}
-use Rattle.little_endian.specs.LittleEndian.{word}
-use Rattle.little_endian.proofs.Laws.{eight-end, eight-turn, eight-room}
+use Rattle.little_endian.proofs.Laws.{word-cons, word-whole}
 use borrow.Author.Needs.{needs}
 use Rattle.little_endian.proofs.get.Statement.{statement}
 use Rattle.little_endian.proofs.get.Tie as tie
 
-abbrev Inv-loop : tie.InvT-loop
-Inv-loop bytes left₀ number₀ left number = (left ≤ min 8 (length bytes)) × (number ≡ word (drop left (take 8 bytes)))
+eight-requires : tie.Need-eight-requires
+eight-requires c κs = search needs
 
-abbrev μ-loop : tie.MeasureT-loop
-μ-loop bytes left₀ number₀ left number = left
+returns : tie.Need-returns
+returns c = search needs
 
-at-most-widest-requires : tie.Need-at-most-widest-requires Inv-loop μ-loop
-at-most-widest-requires c κs = search needs
+four-requires : tie.Need-four-requires
+four-requires c κs = search needs
 
-loop-holds : tie.Need-loop-holds Inv-loop μ-loop
-loop-holds c =
-    let bytes = c .before .before .args .bytes .now in
-    (search needs, rw (c .at-most-widest .ensures) (eight-end bytes))
+returns-2 : tie.Need-returns-2
+returns-2 c = word-whole _ 4 (2 ^ 32) _ (c .before .if2 .taken) (omega arith) (c .four .ensures .1)
 
-sub-left : tie.Need-sub-left Inv-loop μ-loop
-sub-left c = search needs
+pair-requires : tie.Need-pair-requires
+pair-requires c κs = search needs
 
-mul-number : tie.Need-mul-number Inv-loop μ-loop
-mul-number c =
-    let l = c .before .before .before .before .args .bytes .now in
-    let room = eight-room l (c .before .loop .left) (search needs) (λ k. c .before .before .before .shared-slice-known .given k .fits) in
-    record { fits = omega (arith, c .before .loop .inv .1, room) }
+returns-3 : tie.Need-returns-3
+returns-3 c = word-whole _ 2 (2 ^ 16) _ (c .before .if3 .taken) (omega arith) (c .pair .ensures .1)
 
-shared-slice-read-wide : tie.Need-shared-slice-read-wide Inv-loop μ-loop
+shared-slice-read-wide : tie.Need-shared-slice-read-wide
 shared-slice-read-wide c = search needs
 
-wide-requires : tie.Need-wide-requires Inv-loop μ-loop
+wide-requires : tie.Need-wide-requires
 wide-requires c κs = search needs
 
-add-number : tie.Need-add-number Inv-loop μ-loop
-add-number c =
-    let l = c .before .before .before .before .before .before .args .bytes .now in
-    let bytes : (k : ℕ) → getD l k 0 < 2 ^ 8 = λ k. c .before .before .before .before .before .shared-slice-known .given k .fits in
-    let left = c .before .before .before .loop .left in
-    let room = eight-room l left (search needs) bytes in
-    record { fits = omega (arith, c .before .before .before .loop .inv .1, c .wide .ensures, bytes (left - 1)) }
+returns-4 : tie.Need-returns-4
+returns-4 c =
+    let l = c .before .before .before .before .before .before .before .args .bytes .now in
+    let one = c .before .before .if4 .taken in
+    c .wide .ensures .0 ∙ word-whole l 1 256 _ one (omega arith) (word-cons l 0 (omega arith))
 
-loop-less : tie.Need-loop-less Inv-loop μ-loop
-loop-less c = search needs
+gather-requires : tie.Need-gather-requires
+gather-requires c κs = search needs
 
-loop-again : tie.Need-loop-again Inv-loop μ-loop
-loop-again c =
-    let l = c .before .before .before .before .before .before .args .bytes .now in
-    let left = c .before .before .before .loop .left in
-    (search needs, rw (c .before .before .before .loop .inv .1, c .wide .ensures) (eight-turn l left (search needs) (search needs)))
-
-returns : tie.Need-returns Inv-loop μ-loop
-returns c =
-    let e : c .before .loop .left ≡ 0 = omega arith in
-    c .before .loop .inv .1 ∙ rw e
+returns-5 : tie.Need-returns-5
+returns-5 c = search needs
 
 pub get-spec : {M : Type 1} → statement M
 get-spec =
     tie.close
     (tie.spec
-    Inv-loop
-    μ-loop
-    at-most-widest-requires
-    loop-holds
-    sub-left
-    mul-number
+    eight-requires
+    returns
+    four-requires
+    returns-2
+    pair-requires
+    returns-3
     shared-slice-read-wide
     wide-requires
-    add-number
-    loop-less
-    loop-again
-    returns)
+    returns-4
+    gather-requires
+    returns-5)

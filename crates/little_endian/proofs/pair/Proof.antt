@@ -1,10 +1,8 @@
--- `crc_words::load::pair` meets its contract: two bytes of the word.
--- Assumes nothing.
-use borrow.Author.Needs.{needs}
 use native.Mathlib.Omega.{arith}
-use Rattle.crc_words.proofs.Left.{word-two}
-use Rattle.crc_words.proofs.load.pair.Statement.{statement}
-use Rattle.crc_words.proofs.load.pair.Tie as tie
+use Rattle.little_endian.proofs.Laws.{word-two}
+use borrow.Author.Needs.{needs}
+use Rattle.little_endian.proofs.pair.Statement.{statement}
+use Rattle.little_endian.proofs.pair.Tie as tie
 
 shared-slice-read-wide : tie.Need-shared-slice-read-wide
 shared-slice-read-wide c = search needs
@@ -29,9 +27,9 @@ add-result c = search needs
 
 returns : tie.Need-returns
 returns c =
-    let s = c .before .before .before .before .before .args .s .now in
-    let i = c .before .before .before .before .before .args .i in
-    (omega arith, omega (arith, word-two s i (omega arith)))
+    let l = c .before .before .before .before .before .args .bytes .now in
+    let i = c .before .before .before .before .before .args .at in
+    (omega arith, omega (arith, word-two l i (omega arith)))
 
 pub pair-spec : {M : Type 1} → statement M
 pair-spec =
