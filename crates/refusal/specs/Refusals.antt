@@ -1,4 +1,4 @@
--- Document 01, "Refusal numbers". Assumes nothing.
+-- Document 01, "Refusal numbers", and from 18 on document 02. Assumes nothing.
 use Prim.Native.Nat.{ℕ}
 use Rattle.refusal.specs.declared.Refusal.{Refusal}
 

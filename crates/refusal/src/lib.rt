@@ -1,9 +1,9 @@
-// What a call answers where it does not grant: the number of document 01's table, and the index it speaks of.
+// What a call answers where it does not grant: the number that document 01 or 02 gives it, and the index it speaks of.
 //
 //     return Class::Refused(Refusal::of(Refusal::TOO_LARGE));
 //
 // The index counts from 0: the update's where the refusal is given per update, the row's where per row, the slab's where a
-// batch finds no free slot, and 0 elsewhere. Numbers 18 to 26 are those of later requests: no call gives them yet.
+// batch finds no free slot, and 0 elsewhere. Numbers from 18 on are document 02's.
 ghost use mathlib.Core.Path.{_≡_};
 ghost use Rattle.refusal.specs.Refusals.{refusal};
 
