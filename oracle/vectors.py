@@ -1,7 +1,7 @@
 #!/usr/bin/env python3
-"""What the program `vectors` has to write, from the published check values and document 01 alone: `oracle/vectors.py > crates/vectors/stdout`.
+"""What the program `vectors` has to write, from the published check values and the documents alone: `oracle/vectors.py > crates/vectors/stdout`.
 
-The CRC lines are the published numbers, and zlib has to agree with them. The others follow document 01's text."""
+The CRC lines are the published numbers, and zlib has to agree with them. The others follow the documents' text."""
 import zlib
 
 PUBLISHED = [
@@ -49,7 +49,9 @@ def verdict(slot):
         return None, 'refused 4 0'
     room = s - field(s) - 4
     n = int.from_bytes(slot[room:-4], 'little')
-    return (n, str(n)) if n <= room else (None, 'refused 5 0')
+    if n > room:
+        return None, 'refused 5 0'
+    return (None, 'refused 18 0') if any(slot[n:room]) else (n, str(n))
 
 
 def pattern(n):
@@ -78,6 +80,12 @@ def damaged(s, at):
 def stored(s, start, n):
     slot = signed(pattern(s)[:start] + n.to_bytes(s - 4 - start, 'little'))
     print(f'stored {s} {n} {verdict(slot)[1]}')
+
+
+def gap(s, n, at):
+    slot = bytearray(framed(s, pattern(n)))
+    slot[at] ^= 1
+    print(f'gap {s} {n} {at} {verdict(signed(bytes(slot[:-4])))[1]}')
 
 
 def cookie_of(fanout):
@@ -146,8 +154,12 @@ for s, n in [(64, 0), (64, 59), (64, 60), (224, 219), (224, 220), (256, 250), (2
 for s, at in [(64, 0), (64, 30), (64, 59), (64, 63)]:
     damaged(s, at)
 for s, start, n in [(64, 59, 59), (64, 59, 60), (64, 59, 255), (256, 250, 250), (256, 250, 251), (65536, 65528, 65528),
-                    (65536, 65528, 65529), (65536, 65528, 4294967295)]:
+                    (65536, 65528, 65529), (65536, 65528, 4294967295), (64, 59, 58), (64, 59, 0)]:
     stored(s, start, n)
+for s, middle in [(64, 30), (224, 100), (256, 128), (57344, 30001), (65536, 32768), (98304, 65535)]:
+    last = s - field(s) - 5
+    for n, at in [(3, 3), (3, middle), (3, last), (0, 0), (last, last), (3, 2)]:
+        gap(s, n, at)
 for fanout in [0, 1024, U64]:
     c = cookie_of(fanout)
     print(f'cookie {fanout} {c.hex()} {read(c)[1]} {verified(c, fanout)} {verified(c, 1024)}')

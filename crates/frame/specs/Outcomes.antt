@@ -1,4 +1,4 @@
--- The outcome of a verdict: document 01's number and values. Assumes nothing.
+-- The outcome of a verdict: the documents' number and values. Assumes nothing.
 use mathlib.Core.List.{[], _∷_}
 use Rattle.refusal.specs.Outcomes.{Values, granted, refusedAs}
 use Rattle.frame.specs.declared.Verdict.{Verdict}

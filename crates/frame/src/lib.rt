@@ -1,4 +1,5 @@
-// An object in its slot: the object, zeros, its length, and the check of all before it (document 01, "Sizes and frames").
+// An object in its slot: the object, zeros, its length, and the check of all before it (document 01, "Sizes and frames"). A slot is accepted
+// exactly if it is what a write of some object gives (request 2026-02).
 //
 //     match Slab::write(slot, object) {
 //         Finished::Done => ..,
@@ -6,7 +7,7 @@
 //     }
 //     match Slab::verdict(slot) {
 //         Verdict::Object(n) => .. &slot[..n] ..,
-//         Verdict::Refused(refusal) => ..,  // 1; 4, the check differs; 5, the stored length is too long
+//         Verdict::Refused(refusal) => ..,  // 1; 4, the check differs; 5, the stored length is too long; 18, the gap is not zero
 //     }
 //
 // `Slab::read(slot)` hands back that part of the slot at once, and the empty part where the verdict refuses. The slot's
@@ -20,11 +21,21 @@ ghost use Rattle.frame.specs.Frame.{Writing, writing, framed, verdictOf,
 use refusal::Finished;
 use refusal::Refusal;
 
+// The bytes of the smallest slot.
+const SMALLEST: usize = 64;
+
 pub struct Slab {}
 
 pub enum Verdict {
     Object(usize),
     Refused(Refusal),
+}
+
+// Whether a slot has this length. The smallest is asked for first: the compiler then drops its own tests whether a frame fits.
+fn is_slot(len: usize) -> bool
+    ensures { λ r. ⌜ r ≡ isSlabSize len ⌝ }
+{
+    len >= SMALLEST && sizes::is_slab_size(len as u64)
 }
 
 // Where the length field starts in a slot.
@@ -53,7 +64,7 @@ impl Slab {
         ensures { λ r. ⌜ _≡_ {A = Writing} (record { answer = r; slot = now (slot .exit) })
             (writing (now (slot .entry)) (now (object .entry))) ⌝ }
     {
-        if !sizes::is_slab_size(slot.len() as u64) {
+        if !is_slot(slot.len()) {
             return Finished::Refused(Refusal::of(Refusal::WRONG_SHAPE));
         }
         if longest_in(slot) < object.len() {
@@ -67,7 +78,7 @@ impl Slab {
     pub fn verdict(slot: &[u8]) -> Verdict
         ensures { λ r. ⌜ r ≡ verdictOf (now (slot .entry)) ⌝ }
     {
-        if !sizes::is_slab_size(slot.len() as u64) {
+        if !is_slot(slot.len()) {
             return Verdict::Refused(Refusal::of(Refusal::WRONG_SHAPE));
         }
         if !seal::agrees(slot) {
@@ -78,6 +89,9 @@ impl Slab {
         let n = little_endian::get_at(slot, start, end) as usize;
         if start < n {
             return Verdict::Refused(Refusal::of(Refusal::TOO_LONG));
+        }
+        if !zeros::all_zero(&slot[n..start]) {
+            return Verdict::Refused(Refusal::of(Refusal::GAP_NOT_ZERO));
         }
         Verdict::Object(n)
     }

@@ -239,6 +239,13 @@ pub isSlabSize-least : (s : ℕ) → isSlabSize s ≡ true → 64 ≤ s
 unfolding isSlabSize slabSizes
 isSlabSize-least s h = leb-true _ _ (allIn-at (λ s. leb 64 s) slabSizes s refl h)
 
+pub isSlabSize-below : (s : ℕ) → s < 64 → false ≡ isSlabSize s
+isSlabSize-below s h = by (isSlabSize s) refl
+  where
+    by : (k : Bool) → isSlabSize s ≡ k → false ≡ k
+    by true p = absurd (omega (arith, isSlabSize-least s p))
+    by false p = refl
+
 pub isSlabSize-most : (s : ℕ) → isSlabSize s ≡ true → s ≤ 17179869184
 unfolding isSlabSize slabSizes
 isSlabSize-most s h = leb-true _ _ (allIn-at (λ s. leb s 17179869184) slabSizes s refl h)

@@ -1,4 +1,5 @@
-// Frames: document 01's three bytes in a slot of 64, the edges of each width of the length field, and damaged slots.
+// Frames: document 01's three bytes in a slot of 64, the edges of each width of the length field, damaged slots, and slots with rubbish
+// between object and frame.
 use crate::say;
 use crate::space::first;
 use crate::space::space;
@@ -81,6 +82,35 @@ fn stored(size: usize, start: usize, end: usize, n: u64) {
     say::end();
 }
 
+// A written slot with one byte changed, signed all the same.
+fn gap(size: usize, n: usize, at: usize) {
+    let mut slots = space();
+    let mut objects = space();
+    let slot = first(&mut slots, size);
+    let object = first(&mut objects, n);
+    fill(object);
+    Slab::write(slot, object);
+    flip(slot, at);
+    seal::write(slot);
+    say::text(b"gap");
+    say::number(size as u64);
+    say::number(n as u64);
+    say::number(at as u64);
+    say_verdict(Slab::verdict(slot));
+    say::end();
+}
+
+// Behind three bytes the gap's first place, one in its middle and its last; the first of a whole room; the one place behind the
+// longest object but one; and the object's own last byte, which may be anything.
+fn gaps(size: usize, middle: usize, last: usize) {
+    gap(size, 3, 3);
+    gap(size, 3, middle);
+    gap(size, 3, last);
+    gap(size, 0, 0);
+    gap(size, last, last);
+    gap(size, 3, 2);
+}
+
 fn three_bytes() {
     let mut slot = [255u8; 64];
     Slab::write(&mut slot, &[1, 2, 3]);
@@ -121,4 +151,12 @@ pub fn run() {
     stored(65536, 65528, 65532, 65528);
     stored(65536, 65528, 65532, 65529);
     stored(65536, 65528, 65532, 4294967295);
+    stored(64, 59, 60, 58);
+    stored(64, 59, 60, 0);
+    gaps(64, 30, 58);
+    gaps(224, 100, 218);
+    gaps(256, 128, 249);
+    gaps(57344, 30001, 57337);
+    gaps(65536, 32768, 65527);
+    gaps(98304, 65535, 98295);
 }
