@@ -46,7 +46,8 @@ enum wentuhoro_refusal {
     WENTUHORO_RATIO_OUT_OF_RANGE = 14, /* a fill ratio or a target t out of range */
     WENTUHORO_TOO_MANY = 15,           /* over 256 updates */
     WENTUHORO_REPEATED_LOCATION = 16,  /* a rebuild row has an earlier row's location */
-    WENTUHORO_NOTHING_TO_CUT = 17      /* a cut reported where the test says keep */
+    WENTUHORO_NOTHING_TO_CUT = 17,     /* a cut reported where the test says keep */
+    WENTUHORO_GAP_NOT_ZERO = 18        /* bytes between object and frame are not zero */
 };
 
 /* 0 for a status that grants, else one of the numbers above. */
@@ -96,7 +97,8 @@ uint32_t wentuhoro_crc32_update(uint32_t register_, const uint8_t *bytes, size_t
 /* Writes an object into a slot: the object, zeros, its length, the check. Refuses: 1, 5. */
 uint64_t wentuhoro_frame_write(uint8_t *slot, size_t slot_len, const uint8_t *object, size_t object_len);
 
-/* One value: the length of the object, which is the slot's own first bytes. Refuses: 1, 4, 5. */
+/* One value: the length of the object, which is the slot's own first bytes. Granted exactly if the slot is what wentuhoro_frame_write gives for
+ * some object. Refuses: 1, 4, 5, 18. */
 uint64_t wentuhoro_frame_read(const uint8_t *slot, size_t slot_len, uint64_t *length, size_t length_len);
 
 /* Writes a settings cookie of 64 bytes. Refuses: 1. */

@@ -21,7 +21,7 @@ static void expected(bool true_here, const char *what) {
     exit(1);
 }
 
-/* One slot of slab 0, written and read back. */
+/* One slot of slab 0, written and read back; then with a bit of its gap changed, and then signed again. */
 static void write_and_read(void) {
     const uint8_t object[3] = {1, 2, 3};
     uint8_t slot[64];
@@ -31,6 +31,9 @@ static void write_and_read(void) {
     expected(length == 3 && slot[2] == 3, "the object is the slot's first three bytes");
     slot[7] ^= 1;
     expected(wentuhoro_frame_read(slot, sizeof slot, &length, 1) == WENTUHORO_CHECK_DIFFERS, "a changed bit is seen");
+    uint32_t check = wentuhoro_crc32(slot, sizeof slot - 4) ^ 0xAF;
+    for (size_t i = 0; i < 4; i++) slot[sizeof slot - 4 + i] = (uint8_t)(check >> (8 * i));
+    expected(wentuhoro_frame_read(slot, sizeof slot, &length, 1) == WENTUHORO_GAP_NOT_ZERO, "rubbish behind the object is seen, though it is signed");
 }
 
 int main(void) {

@@ -1,7 +1,7 @@
 //! Wentuhoro: a proved store. Placement is a function of the calls alone, so that a machine shows the same face every morning.
 //!
 //! The work is done by `libexports.a`, every function of which is proved to meet its contract; this crate lends it its tables and gives
-//! its answers Rust's types. A refusal has the number of document 01's table and changes nothing.
+//! its answers Rust's types. A refusal has the number that document 01 or 02 gives it and changes nothing.
 //!
 //! ```
 //! use wentuhoro::{Store, Update};

@@ -20,10 +20,38 @@ pub struct Refusal {
     pub index: usize,
 }
 
-/// Document 01's table of refusals.
-#[derive(Clone, Copy, Debug, PartialEq, Eq, Hash, PartialOrd, Ord)]
-#[repr(u8)]
-pub enum RefusalKind {
+// The kinds by name and number, each said once.
+macro_rules! kinds {
+    ($($(#[$meaning:meta])* $kind:ident = $number:literal,)*) => {
+        /// The table of refusals. Later versions name more of them.
+        #[derive(Clone, Copy, Debug, PartialEq, Eq, Hash, PartialOrd, Ord)]
+        #[non_exhaustive]
+        pub enum RefusalKind {
+            $($(#[$meaning])* $kind,)*
+            /// A number that this version has no name for: the linked library is a newer one.
+            Unnamed(u8),
+        }
+
+        impl RefusalKind {
+            fn numbered(number: u8) -> RefusalKind {
+                match number {
+                    $($number => RefusalKind::$kind,)*
+                    _ => RefusalKind::Unnamed(number),
+                }
+            }
+
+            /// The number of the table.
+            pub fn number(self) -> u8 {
+                match self {
+                    $(RefusalKind::$kind => $number,)*
+                    RefusalKind::Unnamed(number) => number,
+                }
+            }
+        }
+    };
+}
+
+kinds! {
     /// A lent slice or a capacity has a wrong length or value.
     WrongShape = 1,
     /// An object beyond the largest class.
@@ -58,21 +86,8 @@ pub enum RefusalKind {
     RepeatedLocation = 16,
     /// A cut reported where the test says keep.
     NothingToCut = 17,
-}
-
-impl RefusalKind {
-    const ALL: [RefusalKind; 17] = {
-        use RefusalKind::*;
-        [
-            WrongShape, TooLarge, OutOfRange, CheckDiffers, TooLong, UnknownVersion, FanoutDiffers, NoSuchId, RepeatedId, NoneFree,
-            BatchOpen, NoBatch, TablesDisagree, RatioOutOfRange, TooMany, RepeatedLocation, NothingToCut,
-        ]
-    };
-
-    /// The number of document 01's table.
-    pub fn number(self) -> u8 {
-        self as u8
-    }
+    /// Bytes between object and frame are not zero.
+    GapNotZero = 18,
 }
 
 impl Refusal {
@@ -81,14 +96,16 @@ impl Refusal {
         if status == 0 {
             return Ok(());
         }
-        let number = (status % 256) as usize;
-        Err(Refusal { kind: RefusalKind::ALL[number - 1], index: (status / 256) as usize })
+        Err(Refusal { kind: RefusalKind::numbered((status % 256) as u8), index: (status / 256) as usize })
     }
 }
 
 impl fmt::Display for Refusal {
     fn fmt(&self, f: &mut fmt::Formatter<'_>) -> fmt::Result {
-        write!(f, "refused with {} ({:?}), index {}", self.kind.number(), self.kind, self.index)
+        match self.kind {
+            RefusalKind::Unnamed(number) => write!(f, "refused with {number}, index {}", self.index),
+            kind => write!(f, "refused with {} ({kind:?}), index {}", kind.number(), self.index),
+        }
     }
 }
 
@@ -99,11 +116,26 @@ mod tests {
     use super::*;
 
     #[test]
-    fn numbers_are_the_tables() {
-        for (at, kind) in RefusalKind::ALL.into_iter().enumerate() {
-            assert_eq!(usize::from(kind.number()), at + 1);
-        }
+    fn numbers_are_the_documents() {
+        use RefusalKind::*;
+        let kinds = [
+            WrongShape, TooLarge, OutOfRange, CheckDiffers, TooLong, UnknownVersion, FanoutDiffers, NoSuchId, RepeatedId, NoneFree,
+            BatchOpen, NoBatch, TablesDisagree, RatioOutOfRange, TooMany, RepeatedLocation, NothingToCut, GapNotZero,
+        ];
+        assert!(kinds.into_iter().map(RefusalKind::number).eq(1..=18));
         assert_eq!(Refusal::unless_granted(0), Ok(()));
         assert_eq!(Refusal::unless_granted(2 * 256 + 9), Err(Refusal { kind: RefusalKind::RepeatedId, index: 2 }));
+    }
+
+    /// Whatever number a library answers, it is shown; those from 1 to 18 have a name.
+    #[test]
+    fn every_number_is_shown() {
+        for number in 0..=255u8 {
+            let refusal = Refusal::unless_granted(7 * 256 + u64::from(number)).unwrap_err();
+            assert_eq!((refusal.kind.number(), refusal.index), (number, 7));
+            assert_eq!(matches!(refusal.kind, RefusalKind::Unnamed(_)), !(1..=18).contains(&number));
+            let shown = refusal.to_string();
+            assert!(shown.starts_with(&format!("refused with {number}")) && shown.ends_with(", index 7"), "{shown}");
+        }
     }
 }

@@ -36,6 +36,11 @@ pub fn slab_for_size(n: u64) -> Result<usize, Refusal> {
 ///
 /// slot[7] ^= 1;
 /// assert_eq!(Slab::read(&slot).unwrap_err().kind.number(), 4);
+///
+/// // The same, signed again: no write gives such a slot.
+/// let check = wentuhoro::crc32(&slot[..60]) ^ 0xAF;
+/// slot[60..].copy_from_slice(&check.to_le_bytes());
+/// assert_eq!(Slab::read(&slot).unwrap_err().kind, wentuhoro::RefusalKind::GapNotZero);
 /// # Ok::<(), wentuhoro::Refusal>(())
 /// ```
 pub struct Slab;
@@ -47,8 +52,9 @@ impl Slab {
         Refusal::unless_granted(status)
     }
 
-    /// The object: the slot's own first bytes, no copy. Refuses a slot of another length with 1, another check with 4, a stored length
-    /// beyond what the slot takes with 5.
+    /// The object: the slot's own first bytes, no copy. A slot is accepted exactly if it is what [`Slab::write`] gives for some object. Refuses a
+    /// slot of another length with 1, another check with 4, a stored length beyond what the slot takes with 5, and a byte that is not zero
+    /// between the object and its length with 18.
     pub fn read(slot: &[u8]) -> Result<&[u8], Refusal> {
         let mut length = 0;
         Refusal::unless_granted(unsafe { raw::wentuhoro_frame_read(slot.as_ptr(), slot.len(), &mut length, 1) })?;
