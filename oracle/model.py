@@ -1,4 +1,5 @@
-"""A second judge: document 01's rules as plain Python, written from the document's text and from nothing else.
+"""A second judge: the rules of document 01, and of the requests of document 02 that have landed, as plain Python, written from the documents'
+text and from nothing else.
 
 Every call of the port is one function or method. A grant gives back the answer; a refusal gives back `Refused(number,
 index)` and changes nothing. The rules are total: a `Store` may hold any table contents at all, and a mark that is none of
@@ -37,6 +38,7 @@ RATIO_OUT_OF_RANGE = 14
 TOO_MANY_UPDATES = 15
 REPEATED_LOCATION = 16
 NOTHING_TO_CUT = 17
+GAP_NOT_ZERO = 18
 
 
 def refused(answer):
@@ -134,6 +136,8 @@ def read_slot(slot):
     length = int.from_bytes(slot[longest_object(size) : size - CHECK_BYTES], "little")
     if length > longest_object(size):
         return Refused(BEYOND_ROOM)
+    if any(slot[length : longest_object(size)]):
+        return Refused(GAP_NOT_ZERO)
     return bytes(slot[:length])
 
 

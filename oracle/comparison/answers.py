@@ -23,7 +23,7 @@ LARGEST_SLOT_LISTED = 98_304
 
 class Lists:
     """Lines of one file. A granted call is asked of the Rust too, and its answer is the one written. The library, where it is asked, is asked
-    a store's refused ones besides."""
+    a store's refused ones besides; a read that the Rust grants and the port refuses is asked of both."""
 
     def __init__(self, mode, title):
         self.mode = mode
@@ -39,6 +39,11 @@ class Lists:
     def ask_library(self, line, refusal):
         """A line that the Rust does not refuse, or not so."""
         self.of_library.append((line, f"refused {refusal.number} {refusal.index}"))
+
+    def ask_both(self, line, rust_answer, refusal):
+        """A line that the library refuses and the Rust answers, as docs/DIFFERENCES.md has it."""
+        self.of_rust.append((line, rust_answer))
+        self.ask_library(line, refusal)
 
     def refuse(self, call, refusal):
         self.lines.append(f"model {call} refused {refusal.number} {refusal.index}")
@@ -142,11 +147,23 @@ def list_reads(lists, chance, size):
         tail = bytearray(field + model.check(body))
         if kind == "flip":
             tail[chance.randrange(len(tail))] ^= 1 << chance.randrange(8)
-        slot = leaves.slot_of(size, data, tail)
-        answer = model.read_slot(slot)
-        call = f"unframe {size} ramp {len(data)} {seed} 3 {tail.hex()}"
-        told = "" if refused(answer) else len(answer)
-        leaf(lists, call, call, answer, f"ok {told}", spoken.ok(told))
+        list_read(lists, f"unframe {size} ramp {len(data)} {seed} 3 {tail.hex()}", leaves.slot_of(size, data, tail))
+
+
+def list_read(lists, call, slot):
+    answer = model.read_slot(slot)
+    told = "" if refused(answer) else len(answer)
+    leaf(lists, call, call, answer, f"ok {told}", spoken.ok(told))
+    if refused(answer) and answer.number in (model.BEYOND_ROOM, model.GAP_NOT_ZERO):
+        lists.ask_both(call, spoken.ok(leaves.rust_hands_back(slot)), answer)
+
+
+def list_gaps(lists, chance):
+    """A gap that is zero but for one byte."""
+    for size in SLAB_SIZES:
+        if size <= LARGEST_SLOT_LISTED:
+            for call, slot in leaves.slots_with_a_spot(chance, size):
+                list_read(lists, call, slot)
 
 
 def list_cookies(lists, chance):
@@ -184,7 +201,7 @@ def list_addresses(lists, chance):
 def leaves_list():
     chance = random.Random(1)
     lists = Lists("mapper", "Class, check, frame, cookie, address: the Rust's answers, and the model's refusals.")
-    for part in (list_classes, list_checks, list_frames, list_cookies, list_addresses):
+    for part in (list_classes, list_checks, list_frames, list_cookies, list_addresses, list_gaps):
         part(lists, chance)
     return lists
 

@@ -49,7 +49,7 @@ class Beside:
 
     def __init__(self, mode):
         self.mode = mode
-        self.lines, self.expected = [], []
+        self.lines, self.expected, self.listed = [], [], []
         self.compared = 0
         self.differences = []
 
@@ -58,18 +58,20 @@ class Beside:
         if len(self.lines) > CHUNK:
             self.finish()
 
-    def call(self, line, expected):
+    def call(self, line, expected, listed=None):
+        """`expected` of the Rust; `listed` of the library, where docs/DIFFERENCES.md says that it answers otherwise."""
         self.lines.append(line)
         self.expected.append(expected)
+        self.listed.append(listed)
 
     def finish(self):
         if not self.lines:
             return
         self.compare("rust", ask(self.mode, self.lines), self.expected)
         if LIBRARY:
-            said = [None if model is None else library_says(model) for model in self.expected]
+            said = [listed or (None if model is None else library_says(model)) for model, listed in zip(self.expected, self.listed)]
             self.compare("library", ask(self.mode, self.lines, LIBRARY), said)
-        self.lines, self.expected = [], []
+        self.lines, self.expected, self.listed = [], [], []
 
     def compare(self, whose, answers, expected):
         for at, (line, model, answer) in enumerate(zip(self.lines, expected, answers)):

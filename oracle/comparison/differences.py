@@ -19,15 +19,22 @@ FIRST = pack(8, 0, 0)
 SECOND = pack(8, 0, 1)
 
 
-def signed_slot(size, length):
-    """Ones, a length field that no write gives, and a valid check."""
+def signed_slot(size, length, data=None):
+    """Bytes, ones throughout where none are given, any length field, and a valid check."""
     room, width = model.longest_object(size), model.field_width(size)
-    body = spoken.ramp(room, 1, 0) + length.to_bytes(width, "little")
+    data = spoken.ramp(room, 1, 0) if data is None else data
+    body = data + bytes(room - len(data)) + length.to_bytes(width, "little")
     return body + model.check(body)
 
 
 def tail_of(slot):
     return slot[model.longest_object(len(slot)) :].hex()
+
+
+def rubbish(size, data, length):
+    """Bytes that go on behind the object, the rest of the gap zero, signed."""
+    slot = signed_slot(size, length, data)
+    return f"unframe {size} hex {len(data)} {data.hex()} {tail_of(slot)}", lambda: model.read_slot(slot)
 
 
 def unframe(size, length):
@@ -58,6 +65,9 @@ assert TORN != WHOLE
 SIXTY, SIXTY_MODEL = unframe(64, 60)
 ALL_ONES, ALL_ONES_MODEL = unframe(64, 255)
 BEYOND_256, BEYOND_256_MODEL = unframe(256, 251)
+
+ONE_BYTE, ONE_BYTE_MODEL = rubbish(64, b"\x01", 0)
+BEHIND_THREE, BEHIND_THREE_MODEL = rubbish(64, b"\x01\x02\x03\x00\x09", 3)
 
 DIFFERENCES = [
     # Named by document 01.
@@ -114,6 +124,9 @@ DIFFERENCES = [
      after([rebuild([(1, FIRST), (2, FIRST)])]), Refused(16, 1)),
     ("id-never-granted", "mapper", [("batch 1 s 5 3 0", f"ok {FIRST}"), ("new_id", "ok 1"), ("lookup 5", f"ok {FIRST}")],
      after([offer([(5, True, 3)])]), Refused(8, 0)),
+    # Named by document 02.
+    ("gap-of-an-empty-object", "mapper", [(ONE_BYTE, "ok 0")], ONE_BYTE_MODEL, Refused(18)),
+    ("gap-behind-three-bytes", "mapper", [(BEHIND_THREE, "ok 3")], BEHIND_THREE_MODEL, Refused(18)),
     # Found since.
     ("id-freed-twice", "mapper",
      [("new_id", "ok 1"), ("batch 1 f 1 0 0", "ok 0"), ("batch 1 f 1 0 0", "ok 0"), ("release", "ok"), ("new_id", "ok 1"),

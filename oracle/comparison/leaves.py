@@ -85,12 +85,20 @@ def slot_of(size, data, tail):
     return slot
 
 
-def expected_read(slot):
-    """None where the Rust hands back framing bytes: a difference on the list."""
+def compare_read(beside, line, slot):
+    """Where the check agrees the Rust hands back as many bytes as the length field says, framing and rubbish too: differences on the list."""
     answer = model.read_slot(slot)
-    if answer == model.Refused(model.CHECK_DIFFERS):
-        return MISMATCH
-    return None if refused(answer) else spoken.ok(len(answer))
+    if not refused(answer):
+        beside.call(line, spoken.ok(len(answer)))
+    elif answer.number == model.CHECK_DIFFERS:
+        beside.call(line, MISMATCH)
+    else:
+        beside.call(line, spoken.ok(rust_hands_back(slot)), f"refused {answer.number} {answer.index}")
+
+
+def rust_hands_back(slot):
+    size = len(slot)
+    return min(int.from_bytes(slot[model.longest_object(size) : size - model.CHECK_BYTES], "little"), size)
 
 
 def compare_damaged(beside, chance, size):
@@ -102,15 +110,35 @@ def compare_damaged(beside, chance, size):
         tail = bytearray(model.write_slot(size, data)[room:])
         tail[chance.randrange(len(tail))] ^= 1 << chance.randrange(8)
         line = f"unframe {size} ramp {length} {seed} 3 {tail.hex()}"
-        beside.call(line, expected_read(slot_of(size, data, tail)))
-    # Rubbish in the gap and any length, signed: accepted as long as the length fits.
+        compare_read(beside, line, slot_of(size, data, tail))
+    # Rubbish in the gap and any length, signed: refused with 5, or with 18 unless there is no gap.
     for _ in range(12):
         data = spoken.ramp(room, chance.randint(0, 255), 5)
         length = chance.choice((0, room, room - 1, chance.randint(0, room), min(room + 1, 256**width - 1)))
         body = data + length.to_bytes(width, "little")
         tail = length.to_bytes(width, "little") + model.check(body)
         line = f"unframe {size} ramp {room} {data[0]} 5 {tail.hex()}"
-        beside.call(line, expected_read(body + model.check(body)))
+        compare_read(beside, line, body + model.check(body))
+    for line, slot in slots_with_a_spot(chance, size):
+        compare_read(beside, line, slot)
+
+
+def slots_with_a_spot(chance, size):
+    """Signed slots, all zero in their gap but for one byte: its first, its second, one further on, its last. With each a driver's line."""
+    room, width = model.longest_object(size), model.field_width(size)
+    for length in sorted({0, 3, room - 3, room - 1, chance.randint(0, room - 3)}):
+        field, step, byte = length.to_bytes(width, "little"), chance.choice((1, 7, 255)), bytes([chance.randint(1, 255)])
+        middle = byte + bytes(min((room - length) // 2, 300))
+        # The ramp runs on behind the object by one byte, 1, or by two, 0 and its step; or a byte stands before the field, or zeros between them.
+        for more, first, spot in ((1, 1, b""), (2, 0, b""), (0, 0, middle), (0, 0, byte)):
+            if length + more + len(spot) > room:
+                continue
+            seed = (first - length * step) % 256
+            data = spoken.ramp(length + more, seed, step)
+            body = data + bytes(room - len(data) - len(spot)) + spot + field
+            slot = body + model.check(body)
+            assert model.read_slot(slot) == model.Refused(model.GAP_NOT_ZERO)
+            yield f"unframe {size} ramp {len(data)} {seed} {step} {(spot + slot[room:]).hex()}", slot
 
 
 def rust_says(answer):

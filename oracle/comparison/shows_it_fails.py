@@ -15,6 +15,7 @@ WRONG = [
     ("frame width by object size", "oracle/model.py", "    if size <= 65_535:\n", "    if size <= 65_536:\n"),
     ("another check mask", "oracle/model.py", "CHECK_MASK = 0xAF", "CHECK_MASK = 0xAE"),
     ("a length beyond the longest object accepted", "oracle/model.py", "    if length > longest_object(size):\n", "    if length > size:\n"),
+    ("a gap's last byte not looked at", "oracle/model.py", "slot[length : longest_object(size)]", "slot[length : longest_object(size) - 1]"),
     ("cookie version 2", "oracle/model.py", "\nVERSION = 1\n", "\nVERSION = 2\n"),
     ("slabs packed from 0", "oracle/model.py", "return (slab + 1) * SLOT_SPAN + slot", "return slab * SLOT_SPAN + slot"),
     ("the quotient cut instead of rounded", "oracle/model.py", "    if 2 * rest > over", "    if 2 * rest > 2 * over"),

@@ -4,7 +4,7 @@
  *
  * Each lent slice stands flush against a page that may not be touched, at its end or at its start; the bytes on its other side are
  * canaries. After each call: no canary has changed; a slice lent for reading is as it was; on a refusal every slice is; and the refusal is
- * one that document 01 lists for that call. Cases go to standard output, as fast as somebody reads them there, for judging by the model
+ * one that document 01 or 02 lists for that call. Cases go to standard output, as fast as somebody reads them there, for judging by the model
  * (fuzz_judge.py).
  *
  * FUZZ_WRONG=refusal, outside, input or answer changes a byte after each call, as if the library had written it. */
@@ -113,7 +113,7 @@ static const struct {
     {"crc32", ""},
     {"crc32_update", ""},
     {"frame_write", "\1\5"},
-    {"frame_read", "\1\4\5"},
+    {"frame_read", "\1\4\5\22"},
     {"cookie_write", "\1"},
     {"cookie_read", "\1\4\6"},
     {"cookie_verify", "\1\4\6\7"},
@@ -122,7 +122,9 @@ static const struct {
     {"fragmentation_cutoff", "\1\16"},
 };
 
-static uint64_t answered[CALLS][18]; /* by call and refusal, 0 for a grant */
+enum { LAST_REFUSAL = WENTUHORO_GAP_NOT_ZERO };
+
+static uint64_t answered[CALLS][LAST_REFUSAL + 1]; /* by call and refusal, 0 for a grant */
 static uint64_t judged;
 
 /* ---- arbitrary contents */
@@ -328,6 +330,16 @@ static void sign(struct slice *s, size_t body) {
     for (size_t i = 0; i < 4; i++) s->at[body + i] = (uint8_t)(check >> (8 * i));
 }
 
+/* Zeros from the stored length up to the length field, but for one byte now and then. */
+static void clear_gap(struct slice *s, size_t field, size_t width) {
+    size_t stored = 0;
+    if (field + width > s->length) return;
+    for (size_t i = width; i > 0; i--) stored = stored * 256 + s->at[field + i - 1];
+    if (stored >= field) return;
+    memset(s->at + stored, 0, field - stored);
+    if (in_hundred(30)) s->at[ONE_OF(stored, field - 1, stored + below(field - stored))] = (uint8_t)(1 + below(255));
+}
+
 static struct slice *any_cookie(void) {
     struct slice *s = lend_near(1, ONE_OF(64, 64, 64, 64, 65, 100, 63, 0), false);
     fill_bytes(s);
@@ -363,6 +375,7 @@ static uint64_t leaf_call(enum call call) {
         n = size <= 255 ? 1 : 2;
         for (size_t i = 0; i < n && size - 4 - n + i < a->length; i++)
             if (in_hundred(80)) a->at[size - 4 - n + i] = (uint8_t)ONE_OF(0, 1, 59, 60, (size - 4 - n) >> (8 * i));
+        if (in_hundred(80)) clear_gap(a, size - 4 - n, n);
         if (in_hundred(80)) sign(a, size - 4);
         b = lend_near(8, 1, true);
         keep_before();
@@ -427,7 +440,7 @@ static void look(enum call call, uint64_t status) {
             fail(call, status, refused ? "written on a refusal" : "written, though lent for reading", i);
     }
     unsigned refusal = refused ? wentuhoro_refusal_number(status) : 0;
-    if (refusal > 17 || (refused && (refusal == 0 || strchr(listed[call].refusals, (int)refusal) == NULL)))
+    if (refusal > LAST_REFUSAL || (refused && (refusal == 0 || strchr(listed[call].refusals, (int)refusal) == NULL)))
         fail(call, status, "no refusal that is listed for this call", 0);
     answered[call][refusal]++;
 }

@@ -23,9 +23,9 @@ pub struct Counts {
 const SHOWN: u64 = 3;
 
 impl Counts {
-    pub fn compare(&mut self, history: &[String], line: &str, library: &str, expected: &str) -> bool {
+    pub fn compare(&mut self, history: &[String], line: &str, answered: &str, expected: &str) -> bool {
         self.compared += 1;
-        if library == expected {
+        if answered == expected {
             return true;
         }
         self.differences += 1;
@@ -33,7 +33,7 @@ impl Counts {
             let cut = |text: &str| text.chars().take(400).collect::<String>();
             println!("  differs after:");
             history.iter().for_each(|line| println!("    {}", cut(line)));
-            println!("  call:     {}\n  library:  {}\n  expected: {}", cut(line), cut(library), cut(expected));
+            println!("  call:     {}\n  answered: {}\n  expected: {}", cut(line), cut(answered), cut(expected));
         }
         false
     }

@@ -1,4 +1,4 @@
-//! Leaves and truncations: the same lines to both, the Rust's words for an error read as document 01's numbers.
+//! Leaves and truncations: the same lines to both, the Rust's words for an error read as the documents' numbers.
 use std::panic::{catch_unwind, AssertUnwindSafe};
 
 use crate::both::Counts;
@@ -31,14 +31,27 @@ struct BothLeaves<'a> {
 }
 
 impl BothLeaves<'_> {
-    fn call(&mut self, line: &str) {
+    fn rust_says(&mut self, line: &str) -> String {
         let rust = &mut self.rust;
         let said = catch_unwind(AssertUnwindSafe(|| {
             let mut words = Words::of(line);
             let name = words.next().to_string();
             rust.call(&name, &mut words).unwrap()
         }));
-        let said = said.unwrap_or_else(|_| "panic".into());
+        said.unwrap_or_else(|_| "panic".into())
+    }
+
+    /// A listed difference: the library refuses what the Rust answers so.
+    fn differs(&mut self, line: &str, rust: &str, ours: &str) {
+        let said = self.rust_says(line);
+        self.counts.listed += 1;
+        self.counts.refusals += 1;
+        self.counts.compare(&[], &format!("{line} (the Rust)"), &said, rust);
+        self.counts.compare(&[], line, &our_leaves::call(line).unwrap(), ours);
+    }
+
+    fn call(&mut self, line: &str) {
+        let said = self.rust_says(line);
         let known = RUSTS_WORDS.iter().find(|(words, _)| said.starts_with(words));
         let expected = known.map_or(said.clone(), |(_, ours)| ours.to_string());
         self.counts.listed += u64::from(said == "asserted");
@@ -80,7 +93,7 @@ pub fn numbers(counts: &mut Counts, chance: &mut Chance) {
     both.call("unpack 0");
 }
 
-/// Each slab up to a mebibyte: frames of any object, read back, damaged anywhere, and signed with any length.
+/// Each slab up to a mebibyte: frames of any object, read back, damaged anywhere, and signed with any length or with rubbish in the gap.
 pub fn frames(counts: &mut Counts, chance: &mut Chance, count: u64) {
     let mut both = BothLeaves { rust: Leaves::new(), counts };
     for size in SLAB_SIZES.into_iter().filter(|size| *size <= LARGEST_SLOT_BUILT) {
@@ -104,27 +117,42 @@ pub fn frames(counts: &mut Counts, chance: &mut Chance, count: u64) {
             let at = chance.among(0, tail.len() as u64 - 1) as usize;
             tail[at] ^= 1 << chance.among(0, 7);
             both.call(&format!("unframe {size} ramp {length} {seed} {step} {}", hex(&tail)));
-            signed(&mut both, chance, slot, room as usize);
+            signed(&mut both, chance, slot, room as usize, length as usize);
         }
     }
 }
 
-fn signed(both: &mut BothLeaves, chance: &mut Chance, mut slot: Vec<u8>, room: usize) {
+/// Another length in the field, then one byte changed in the gap behind the object; each signed.
+fn signed(both: &mut BothLeaves, chance: &mut Chance, slot: Vec<u8>, room: usize, length: usize) {
     let end = slot.len() - 4;
     let any = chance.word() % (room as u64 + 3);
-    let length = chance.of(&[any, any, room as u64, room as u64 + 1]).to_le_bytes();
-    slot[room..end].copy_from_slice(&length[..end - room]);
+    let mut other = slot.clone();
+    let field = chance.of(&[any, any, room as u64, room as u64 + 1]).to_le_bytes();
+    other[room..end].copy_from_slice(&field[..end - room]);
+    let stored = other[room..end].iter().rev().fold(0, |number, byte| number * 256 + *byte as usize);
+    read_signed(both, other, room, stored);
+    if length < room {
+        let mut spotted = slot;
+        let anywhere = chance.among(length as u64, room as u64 - 1) as usize;
+        spotted[chance.of(&[length, anywhere, room - 1])] = chance.among(1, 255) as u8;
+        read_signed(both, spotted, room, length);
+    }
+}
+
+/// Where the check agrees the Rust hands back as many bytes as the field says: framing bytes, which the library refuses with 5, and objects with
+/// rubbish behind them, refused with 18.
+fn read_signed(both: &mut BothLeaves, mut slot: Vec<u8>, room: usize, stored: usize) {
+    let end = slot.len() - 4;
     let check = (wentuhoro::crc32(&slot[..end]) ^ 0xAF).to_le_bytes();
     slot[end..].copy_from_slice(&check);
-    let field = slot[room..end].iter().rev().fold(0, |number, byte| number * 256 + *byte as usize);
     let line = format!("unframe {} hex {} {} {}", slot.len(), room, hex(&slot[..room]), hex(&slot[room..]));
-    if field <= room {
-        return both.call(&line);
+    if stored > room {
+        both.differs(&line, &format!("ok {}", stored.min(slot.len())), "refused 5 0")
+    } else if slot[stored..room].iter().any(|byte| *byte != 0) {
+        both.differs(&line, &format!("ok {stored}"), "refused 18 0")
+    } else {
+        both.call(&line)
     }
-    // Listed: the Rust hands back framing bytes.
-    both.counts.listed += 1;
-    both.counts.refusals += 1;
-    both.counts.compare(&[], &line, &our_leaves::call(&line).unwrap(), "refused 5 0");
 }
 
 pub fn cookies(counts: &mut Counts, chance: &mut Chance, count: u64) {
