@@ -69,10 +69,14 @@ fn classes(rounds: u32, picture: &mut Picture) {
     }
 }
 
+/// Slots that are full, or nearly; and three bytes in a small slot and in large ones, which are nearly all gap.
+const SLOTS_AND_OBJECTS: [(usize, usize); 9] =
+    [(64, 59), (64, 3), (256, 250), (1024, 1000), (1024, 3), (4096, 4090), (65536, 65528), (65536, 3), (1048576, 1048568)];
+
 fn frames(rounds: u32) {
     println!("\n### Frames: ns a call, beside our check of the same bytes with one pass over them\n");
     println!("| slot | object | write | check + copy | ratio | read | check | ratio |\n|--:|--:|--:|--:|--:|--:|--:|--:|");
-    for (size, n) in [(64, 59), (64, 3), (256, 250), (1024, 1000), (4096, 4090), (65536, 65528), (1048576, 1048568)] {
+    for (size, n) in SLOTS_AND_OBJECTS {
         let object = ramp(n);
         let mut slot = vec![255u8; size];
         let mut copy = vec![255u8; size];
