@@ -81,7 +81,8 @@ pub extern "C" fn wentuhoro_defrag(
     }
 }
 
-// Whether a slab's file is cut. Three values: 1, the length to cut it to, the bytes given back; or three zeros to keep it.
+// Whether a slab's file is cut. Three values: 1, the length to cut it to, which is a whole number of slots, and the bytes from the length before
+// down to it; or three zeros to keep it.
 #[no_mangle]
 pub extern "C" fn wentuhoro_truncation(
     ids: usize,

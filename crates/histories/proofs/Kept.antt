@@ -8,15 +8,12 @@ use native.Mathlib.Omega.{arith}
 use lib.Dec.{eqb}
 use lib.ListN.{length, getD, length-set, set, List·getD-map, length-map}
 use lib.Seq.{getD-set-other}
-use Rattle.list_parts.specs.Parts.{part}
-use Rattle.list_parts.proofs.Parts.{length-part}
 use Rattle.address.specs.Address.{slabs}
-use Rattle.marks.specs.Marks.{lastTaken, tipOf, hold, letGo, isPending}
-use Rattle.marks.proofs.LawsCount.{lastTaken-le}
+use Rattle.marks.specs.Marks.{hold, letGo, isPending}
 use Rattle.model.specs.Batches.{applyRow, applyRows, afterCommit}
 use Rattle.model.specs.Ids.{afterNewId, nextId, bumpPending, afterRelease}
 use Rattle.model.specs.Store.{Store, Row}
-use Rattle.model.specs.Tables.{slotPlace, kept, mostUpdates, allocators, capacities, slabTip, locationOf}
+use Rattle.model.specs.Tables.{slotPlace, kept, mostUpdates, allocators, capacities, locationOf}
 use Rattle.model.specs.Lending.{lentFit, sized}
 use Rattle.model.specs.Truncation.{keeps}
 use Rattle.model.proofs.Lists.{set-each, set-keeps}
@@ -40,18 +37,6 @@ sized-same s t p q e = λ k.
     (eqb (getD (e k) 0 0) (p k) && eqb (getD (e k) 1 0) (p k) && eqb (getD (e k) 2 0) (slabs * q k) && eqb (getD (e k) 3 0) (slabs * q k) &&
     (eqb (getD (e k) 4 0) mostUpdates && eqb (getD (e k) 5 0) mostUpdates) &&
     (eqb (getD (e k) 6 0) allocators && eqb (getD (e k) 7 0) allocators && eqb (getD (e k) 8 0) allocators && eqb (getD (e k) 9 0) slabs))
-
--- ---- tips
-
--- the tip is at most the slots, of which there is one
-pub slabTip-le : (s : Store) → 1 ≤ s .slots → (k : ℕ) → slabTip s k ≤ s .slots
-slabTip-le s low k = go (lastTaken (part (s .slots) (s .slotMarks) k)) (getD (s .tallies .used) (suc k) 0)
-    (lastTaken-le (part (s .slots) (s .slotMarks) k)) (length-part (s .slots) (s .slotMarks) k)
-  where
-    go : (n u : ℕ) {m : ℕ} → n ≤ m → m ≤ s .slots → tipOf n u ≤ s .slots
-    go zero zero a b = omega arith
-    go zero (suc u) a b = omega arith
-    go (suc n) u a b = omega arith
 
 -- ---- marks of ids change, and held ids above 0 stay held
 

@@ -22,10 +22,9 @@ use Rattle.model.specs.Defrag.{movesIn, movable, consIf, slabMoves, movesFrom, 
 use Rattle.model.specs.Rebuild.{heldBy}
 use Rattle.model.specs.Store.{Store, Row}
 use Rattle.model.specs.Tables.{inIds, locationOf, capacities, slabTip, live, idsOf}
-use Rattle.model.proofs.Sizes.{capacities-range}
+use Rattle.model.proofs.Sizes.{capacities-range, slabTip-le}
 use Rattle.model.proofs.Lists.{zeros}
 use Rattle.histories.specs.Statements.{MovesFit}
-use Rattle.histories.proofs.Kept.{slabTip-le}
 use Rattle.histories.proofs.KeptRebuild.{length-heldBy}
 use Rattle.histories.proofs.TalliedIds.{Spare, count-heldBy, count-zeros}
 

@@ -15,12 +15,12 @@ use Rattle.model.specs.Truncation.{withHigh, raise}
 use Rattle.model.specs.Verdict.{ok, Verdict, refuse}
 use Rattle.model.proofs.Batches.{length-updatesOf}
 use Rattle.model.proofs.Granted.{granted-rest, offer-granted}
-use Rattle.model.proofs.Sizes.{sized-sizes}
+use Rattle.model.proofs.Sizes.{sized-sizes, slabTip-le, length-raise}
 use Rattle.model.proofs.Lists.{set-each}
 use Rattle.model.proofs.Verdicts.{then-ok}
 use Rattle.histories.specs.Invariant.{Inv}
 use Rattle.histories.specs.Statements.{Reached}
-use Rattle.histories.proofs.Kept.{sized-same, keep-newId, keep-release, keep-commit, slabTip-le}
+use Rattle.histories.proofs.Kept.{sized-same, keep-newId, keep-release, keep-commit}
 use Rattle.histories.proofs.KeptBatches.{keep-offer, keep-abandon}
 use Rattle.histories.proofs.KeptRebuild.{rebuilt-inv, rows-apart}
 
@@ -29,10 +29,6 @@ caps-of s e = sized-sizes s e .caps
 
 keep-high : (s : Store) (h : List ℕ) → length h ≡ length (s .tallies .high) → ((k : ℕ) → getD h k 0 < s .slots) → Inv s → Inv (withHigh s h)
 keep-high s h e m v = record { is-sized = sized-same (withHigh s h) s refl refl (rw e) ∙ v .is-sized; few = v .few; tops = m; good = v .good }
-
-length-raise : (h : List ℕ) (k t : ℕ) → length (raise h k t) ≡ length h
-length-raise h k zero = refl
-length-raise h k (suc t) = simp length-set
 
 raise-lt : (h : List ℕ) (k t n : ℕ) → t ≤ n → ((i : ℕ) → getD h i 0 < n) → (i : ℕ) → getD (raise h k t) i 0 < n
 raise-lt h k zero n p a = a

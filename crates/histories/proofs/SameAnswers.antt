@@ -18,7 +18,7 @@ use Rattle.model.specs.Store.{Store, Row, Batch, withBatch, Update, Question, l
 use Rattle.model.specs.Store.{done, gave, placed, moves}
 use Rattle.model.specs.Tables.{write, locationOf, shut, writeAll, kept, pairs, locationsOf, slabTip}
 use Rattle.model.specs.Tests.{shape}
-use Rattle.model.specs.Truncation.{withHigh, cutAt, keeps}
+use Rattle.model.specs.Truncation.{highMark, withHigh, cutAt, keeps}
 use Rattle.model.specs.Verdict.{Verdict, ok, refuse, _⨾_, test}
 use Rattle.model.proofs.Verdicts.{assoc}
 use Rattle.histories.specs.Invariant.{Inv}
@@ -162,12 +162,12 @@ report-seen : (s t : Store) → Same s t → Inv s → Inv t → (k d : ℕ) →
 unfolding answer refusal refusalOf grant
 report-seen s t e vs vt k d =
     (λ i. veil (answerBy (assoc (shape s (report k d)) (slabRefusal s k d) (keeping s) i) done))
-    ∙ report-by (shape s (report k d) ⨾ slabRefusal s k d) (keeps (cutAt s k d (slabTip s k))) (keeps (cutAt t k d (slabTip t k)))
+    ∙ report-by (shape s (report k d) ⨾ slabRefusal s k d) (keeps (cutAt k (highMark s k) d (slabTip s k))) (keeps (cutAt k (highMark t k) d (slabTip t k)))
     ∙ (λ i. veil (answerBy ((shapes s t e vs vt (report k d) i ⨾ slab-same s t e vs vt k d i) ⨾ keeping t) done))
     ∙ (λ i. veil (answerBy (sym (assoc (shape t (report k d)) (slabRefusal t k d) (keeping t)) i) done))
   where
     keeping : Store → Verdict
-    keeping x = test (keeps (cutAt x k d (slabTip x k))) nothingToCut 0
+    keeping x = test (keeps (cutAt k (highMark x k) d (slabTip x k))) nothingToCut 0
 
 -- what a question grants
 reply-seen : (s t : Store) → Same s t → Inv s → Inv t → (q : Question) → seen (ask q) (granted (reply s q)) ≡ seen (ask q) (granted (reply t q))

@@ -20,10 +20,9 @@ use Rattle.fragmentation.proofs.LawsCutoff.{cutoff-le}
 use Rattle.model.specs.Defrag.{movesIn, movable, consIf, slabMoves, movesFrom, allMoves}
 use Rattle.model.specs.Store.{Store, Row}
 use Rattle.model.specs.Tables.{locationOf, inIds, live, slabTip}
-use Rattle.model.proofs.Sizes.{sized-sizes}
+use Rattle.model.proofs.Sizes.{sized-sizes, slabTip-le}
 use Rattle.model.proofs.Locations.{slotPlace-packing}
 use Rattle.histories.specs.Invariant.{Inv, Located}
-use Rattle.histories.proofs.Kept.{slabTip-le}
 use Rattle.histories.proofs.Same.{Same, loc-same, inIds-same, same-sym}
 
 -- where the last taken is none, all are free

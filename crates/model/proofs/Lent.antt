@@ -3,12 +3,11 @@
 use mathlib.Core.Path.{ap, _≡_, refl, _∙_, sym}
 use mathlib.Core.Bool.{not, _&&_, _||_, Bool, cond, true, false}
 use mathlib.Core.List.{List, [], _∷_, _++_}
-use Prim.Native.Nat.{_-_, ℕ, suc, zero, _*_, _+_, max}
+use Prim.Native.Nat.{_-_, ℕ, suc, zero, _*_, _+_}
 use lib.Dec.{ltb, eqb}
 use lib.ListN.{length, getD}
 use lib.Ieee.{Float}
-use Rattle.refusal.specs.Refusals.{wrongShape, tablesDisagree, noSuchId, nothingToCut}
-use Rattle.sizes.specs.Sizes.{sizeOf}
+use Rattle.refusal.specs.Refusals.{wrongShape, tablesDisagree, noSuchId}
 use Rattle.address.specs.Address.{isLocation, packing, slabs}
 use Rattle.fragmentation.specs.Cutoff.{cutoff}
 use Rattle.model.specs.Batches.{abandonRows}
@@ -18,12 +17,11 @@ use Rattle.model.specs.Lent.{lent, joined, chosen, lengthsFit, fits}
 use Rattle.model.specs.Memory.{Memory, read, batchOf, memoryOf, batchWords, tallyWords}
 use Rattle.model.specs.MemoryAfter.{memoryEffect, memoryAfter}
 use Rattle.model.specs.Questions.{askRefusal, reply}
-use Rattle.model.specs.Step.{refusalOf, refusal, slabRefusal, grant, answer, answerBy, unless}
-use Rattle.model.specs.Store.{Row, Store, withIdMarks, Batch, withBatch, Question, lookup, counters, defrag, moves, truncated}
+use Rattle.model.specs.Step.{refusalOf, refusal, grant, answer, answerBy, unless}
+use Rattle.model.specs.Store.{Row, Store, withIdMarks, Batch, withBatch, Question, lookup, counters, defrag, moves}
 use Rattle.model.specs.Store.{Call, newId, release, offer, commit, abandon, fresh, rebuild, ask, truncation, report}
 use Rattle.model.specs.Tables.{capacities, live, slabTip, badAt, kept, heldId, locationOf}
 use Rattle.model.specs.Tests.{shape, oneOpen}
-use Rattle.model.specs.Truncation.{cutAt, cutOf, keeps}
 use Rattle.model.specs.Verdict.{test, _⨾_, ok, Verdict, refuse}
 use Rattle.model.proofs.Sizes.{shape-read}
 
@@ -46,14 +44,10 @@ movesFrom-marks s t r zero k = refl
 movesFrom-marks s t r (suc n) k = λ i.
     movesIn-marks s t k (cutoff (live s k) (slabTip s k) r) (slabTip s k - cutoff (live s k) (slabTip s k) r) i ++ movesFrom-marks s t r n (suc k) i
 
--- a bad location by the four tables, a cut by the high marks
+-- a bad location by the four tables
 badAt-tables : (s : Store) (b : Batch) (i l : ℕ) → badAt (withBatch s b) i l ≡ badAt s i l
 badAt-tables s b i zero = refl
 badAt-tables s b i (suc l) = refl
-
-cutAt-high : (s t : Store) → s .tallies ≡ t .tallies → (k d n : ℕ) → cutAt s k d n ≡ cutAt t k d n
-cutAt-high s t e k d zero = refl
-cutAt-high s t e k d (suc top) = ap (λ g. cutOf (sizeOf k) top (max (getD (g .high) k 0) top) d) e
 
 -- ---- what is lent is kept
 
@@ -107,8 +101,7 @@ lent-rest m fresh = refl
 lent-rest m (rebuild rs) = refl
 lent-rest m (ask q) = lent-ask m q
 lent-rest m (truncation k t) = refl
-lent-rest m (report k t) = λ j.
-    slabRefusal (read m) k t ⨾ test (keeps (cutAt-high (read (lent (report k t) m)) (read m) refl k t (slabTip (read m) k) j)) nothingToCut 0
+lent-rest m (report k t) = refl
 
 pub lent-refusal : (m : Memory) (c : Call) → refusal (read (lent c m)) c ≡ refusal (read m) c
 unfolding refusal
@@ -130,7 +123,7 @@ lent-grant m abandon = refl
 lent-grant m fresh = refl
 lent-grant m (rebuild rs) = refl
 lent-grant m (ask q) = lent-reply m q
-lent-grant m (truncation k t) = ap truncated (cutAt-high (read (lent (truncation k t) m)) (read m) refl k t (slabTip (read m) k))
+lent-grant m (truncation k t) = refl
 lent-grant m (report k t) = refl
 
 -- the answer

@@ -2,24 +2,29 @@
 -- (sizes-read), and of a memory it says how long the lent words are. Assumes nothing.
 use mathlib.Core.Path.{_≡_, refl, ap, _∙_}
 use mathlib.Core.Bool.{Bool, true, false, not, _&&_}
-use Prim.Native.Nat.{ℕ, _≤_, _*_}
+use mathlib.Core.List.{List}
+use Prim.Native.Nat.{ℕ, zero, suc, _≤_, _*_, max}
 use native.Mathlib.Omega.{arith}
 use lib.Dec.{ltb, eqb}
-use lib.ListN.{length, drop, length-drop}
+use lib.ListN.{length, getD, drop, length-drop, length-set}
 use lib.Seq.{length-take-le}
 use borrow.Author.Tests.{not-true, ltb-false, eqb-true, eq-eqb}
 use Rattle.refusal.specs.Refusals.{wrongShape}
 use Rattle.refusal.proofs.Tests.{and-true, or-false, both-ways, all}
+use Rattle.list_parts.specs.Parts.{part}
+use Rattle.list_parts.proofs.Parts.{length-part}
 use Rattle.address.specs.Address.{badSlots, slabs}
 use Rattle.address.proofs.Laws.{slots-range}
+use Rattle.marks.specs.Marks.{lastTaken, tipOf}
+use Rattle.marks.proofs.LawsCount.{lastTaken-le}
 use Rattle.id_allocator.proofs.LawsCounted.{counted-length}
 use Rattle.model.specs.Lending.{Lending, everyTable, ifLent, lentFit, lendingOf, sized}
 use Rattle.model.specs.Lent.{lengthsFit, fits}
 use Rattle.model.specs.Memory.{Memory, read, getWord, hintWords, waitingWords, keptIdsAt, keptLocationsAt, batchWords, highWords, tallyWords}
 use Rattle.model.specs.Store.{Store, Call}
-use Rattle.model.specs.Tables.{mostUpdates, allocators, badIds, capacities, idMarksFit, locationsFit, slotMarksFit, ownersFit, batchFits, talliesFit}
-use Rattle.list_parts.specs.Parts.{part}
+use Rattle.model.specs.Tables.{mostUpdates, allocators, badIds, capacities, idMarksFit, locationsFit, slotMarksFit, ownersFit, batchFits, talliesFit, slabTip}
 use Rattle.model.specs.Tests.{shape}
+use Rattle.model.specs.Truncation.{raise}
 use Rattle.model.specs.Verdict.{ok, test}
 use Rattle.model.proofs.Slabs.{length-countedSlabs}
 
@@ -241,3 +246,19 @@ module _ (l : Lending) (m : Memory) (e : fits l m ≡ true) where
 
   pub fits-tallies : When (l .tallies) (length (m .tallies) ≡ tallyWords)
   fits-tallies = when (l .tallies) _ (tests .tallies) (λ h. eqb-true _ _ h)
+
+-- ---- tips and high marks
+
+-- the tip is at most the slots, of which there is one
+pub slabTip-le : (s : Store) → 1 ≤ s .slots → (k : ℕ) → slabTip s k ≤ s .slots
+slabTip-le s low k = go (lastTaken (part (s .slots) (s .slotMarks) k)) (getD (s .tallies .used) (suc k) 0)
+    (lastTaken-le (part (s .slots) (s .slotMarks) k)) (length-part (s .slots) (s .slotMarks) k)
+  where
+    go : (n u : ℕ) {m : ℕ} → n ≤ m → m ≤ s .slots → tipOf n u ≤ s .slots
+    go zero zero a b = omega arith
+    go zero (suc u) a b = omega arith
+    go (suc n) u a b = omega arith
+
+pub length-raise : (h : List ℕ) (k tip : ℕ) → length (raise h k tip) ≡ length h
+length-raise h k zero = refl
+length-raise h k (suc top) = length-set h k (max (getD h k 0) top)

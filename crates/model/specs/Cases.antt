@@ -1,5 +1,5 @@
--- Document 01, "Cases": P8, P9, P10, the run whole, and its easy slips, each as what the rules give beside what the document says.
--- Assumes nothing.
+-- Document 01, "Cases": P8, P9, P10, the run whole, and its easy slips, each as what the rules give beside what the document says; and the edges
+-- of a cut. Assumes nothing.
 use mathlib.Core.Bool.{Bool, true, false, _&&_}
 use mathlib.Core.List.{List, [], _∷_, _++_, map}
 use Prim.Native.Nat.{ℕ}
@@ -11,7 +11,7 @@ use Rattle.refusal.specs.Outcomes.{Values, granted, refused}
 use Rattle.refusal.specs.Refusals.{noneFree}
 use Rattle.address.specs.Address.{packing}
 use Rattle.fragmentation.specs.Cutoff.{cutoff}
-use Rattle.model.specs.Store.{Store, Call, newId, release, offer, commit, rebuild, ask, lookup, counters, defrag, cut, Grant, gave}
+use Rattle.model.specs.Store.{Store, Call, newId, release, offer, commit, rebuild, ask, lookup, counters, defrag, keep, cut, Grant, gave}
 use Rattle.model.specs.Store.{placed, counts, moves, truncated, Answer}
 use Rattle.model.specs.Rebuild.{columns}
 use Rattle.model.specs.Truncation.{cutOf}
@@ -102,10 +102,21 @@ cases =
     -- P9: from 4; nothing, which is from the tip on
     caseOf (gave (cutoff 3 8 threeQuarters)) (gave 4) ∷
     caseOf (gave (cutoff 4 8 half)) (gave 8) ∷
-    -- P10, by slab 64, top and high mark 99, t 80
-    caseOf (truncated (cutOf 64 39 99 80)) (truncated (cut 2944 0)) ∷
-    caseOf (truncated (cutOf 64 16 99 80)) (truncated (cut 1251 0)) ∷
-    caseOf (truncated (cutOf 64 15 99 80)) (truncated (cut 1024 0)) ∷
+    -- P10 as request 2026-05 reads it: size 64, the top, high mark 99, t 80
+    caseOf (truncated (cutOf 64 39 99 80)) (truncated (cut 2944 3456)) ∷
+    caseOf (truncated (cutOf 64 16 99 80)) (truncated (cut 1280 5120)) ∷
+    caseOf (truncated (cutOf 64 15 99 80)) (truncated (cut 1024 5376)) ∷
+    -- one slot in use: 1 percent of 100 slots, less than 1 of 101
+    caseOf (truncated (cutOf 64 0 99 1)) (truncated keep) ∷
+    caseOf (truncated (cutOf 64 0 100 1)) (truncated (cut 64 6400)) ∷
+    -- 17 slots of 20 are below 86 percent, and 19.55 rounded up leave nothing to cut; of 21 they leave one slot
+    caseOf (truncated (cutOf 64 16 19 86)) (truncated keep) ∷
+    caseOf (truncated (cutOf 64 16 20 86)) (truncated (cut 1280 64)) ∷
+    -- the top is the high mark
+    caseOf (truncated (cutOf 64 99 99 86)) (truncated keep) ∷
+    -- the largest slots, 65,536 of them: the most that are below 86 percent, and one more
+    caseOf (truncated (cutOf 17179869184 56359 65535 86)) (truncated (cut 1113496041291776 12403865550848)) ∷
+    caseOf (truncated (cutOf 17179869184 56360 65535 86)) (truncated keep) ∷
     -- the run whole: slab 0 slot 5 has id 6, slot 7 id 8
     case (answer afterWhole (defragOf threeQuarters 8)) (granted (moves ((6, packing 0 5) ∷ (8, packing 0 7) ∷ []))) ∷
     -- the quotient is rounded before it is cut: 9 / r is 10, not 9 and a fraction, so that nothing is listed

@@ -37,7 +37,7 @@ refusalOf s fresh = ok
 refusalOf s (rebuild rs) = lists (asLong (rs .ids) (rs .locations)) ⨾ rows s [] [] 0 (rowsIn rs)
 refusalOf s (ask q) = askRefusal s q
 refusalOf s (truncation k t) = slabRefusal s k t
-refusalOf s (report k t) = slabRefusal s k t ⨾ test (keeps (cutAt s k t (slabTip s k))) nothingToCut 0
+refusalOf s (report k t) = slabRefusal s k t ⨾ test (keeps (cutAt k (highMark s k) t (slabTip s k))) nothingToCut 0
 
 unfoldable pub refusal : Store → Call → Verdict
 refusal s c = shape s c ⨾ refusalOf s c
@@ -53,7 +53,7 @@ grant s abandon = done
 grant s fresh = done
 grant s (rebuild rs) = done
 grant s (ask q) = reply s q
-grant s (truncation k t) = truncated (cutAt s k t (slabTip s k))
+grant s (truncation k t) = truncated (cutAt k (highMark s k) t (slabTip s k))
 grant s (report k t) = done
 
 -- ---- the store after a granted call

@@ -11,10 +11,11 @@ use Rattle.model.specs.Ids.{bumpPending}
 use Rattle.model.specs.Batches.{room}
 use Rattle.model.specs.Defrag.{movesFrom}
 use Rattle.model.specs.Lending.{lentFit}
+use Rattle.model.specs.Truncation.{cutAt}
 use Rattle.model.specs.Questions.{askRefusal, reply}
 use Rattle.model.specs.Step.{refusalOf, refusal, grant, effect, answer, next}
-use Rattle.model_samples.specs.Sample.{sample1, sample2, sample3, sample4, sample5, sample6, sample7, sample8, sampleAgrees}
+use Rattle.model_samples.specs.Sample.{sample1, sample2, sample3, sample4, sample5, sample6, sample7, sample8, sample9, sample10, sampleAgrees}
 
 pub sample-agrees : sampleAgrees ≡ true
-unfolding sampleAgrees sample1 sample2 sample3 sample4 sample5 sample6 sample7 sample8 _⨾_ test answer next refusal refusalOf askRefusal reply lentFit grant effect badIds badSlots slabFor firstFit slabSizes fieldWidth sizeOf isRatio cutoff div le lt eq ofInt toUnsigned round units odd size span climb room bumpPending movesFrom
+unfolding sampleAgrees sample1 sample2 sample3 sample4 sample5 sample6 sample7 sample8 sample9 sample10 _⨾_ test answer next refusal refusalOf askRefusal reply lentFit grant effect badIds badSlots slabFor firstFit slabSizes fieldWidth sizeOf isRatio cutoff div le lt eq ofInt toUnsigned round units odd size span climb room bumpPending movesFrom cutAt
 sample-agrees = refl

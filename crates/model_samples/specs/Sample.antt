@@ -1,5 +1,5 @@
 -- A sample of the oracle's histories, on the definitions themselves. Each call and its answer are taken line by line from oracle/answers
--- (README.md there has the grammar): the answer is the Rust's for each call that it grants, and the refusal of document 01 elsewhere.
+-- (README.md there has the grammar): the answer is the Rust's where that is the documents' too, and elsewhere that of the oracle's model of them.
 -- Assumes nothing.
 use mathlib.Core.Bool.{Bool, true, false, _&&_}
 use mathlib.Core.List.{List, [], _∷_}
@@ -170,7 +170,24 @@ sample8 =
     asked (ask counters) (countsFrom ((0, 7, 4) ∷ (1, 2, 2) ∷ (4, 1, 0) ∷ (15, 3, 2) ∷ []) 7 4 6 4) ∷ denied (defragOf (inf false) 6) 14 0 ∷
     denied (ask (lookup 0)) 8 0 ∷ asked release done ∷
     asked (offerOf (5 ∷ 3 ∷ []) (false ∷ false ∷ []) (0 ∷ 0 ∷ []) (5 ∷ 3 ∷ [])) (placed (0 ∷ 0 ∷ [])) ∷ asked commit done ∷
-    asked (truncation 0 80) (truncated (cut 64 0)) ∷ asked (report 0 80) done ∷ []
+    asked (truncation 0 80) (truncated (cut 64 64)) ∷ asked (report 0 80) done ∷ []
+
+-- stores.txt, histories 130 and 131, whole: 17 slots in use of 20, and of 21; the first eight calls are alike
+abbrev pub onceLarger : ℕ → List Asked → List Asked
+onceLarger high asks =
+    asked (rebuildOf (1 ∷ 2 ∷ []) (72057594037927952 ∷ high ∷ [])) done ∷ asked (truncation 0 86) (truncated keep) ∷
+    asked (offerOf (2 ∷ []) (false ∷ []) (0 ∷ []) (2 ∷ [])) (placed (0 ∷ [])) ∷ asked commit done ∷ asked release done ∷
+    denied (truncation 0 0) 14 0 ∷ asked (truncation 0 1) (truncated keep) ∷ asked (truncation 0 80) (truncated keep) ∷ asks
+
+unfoldable pub sample9 : List Asked
+sample9 = onceLarger 72057594037927955 (
+    asked (truncation 0 85) (truncated keep) ∷ asked (truncation 0 86) (truncated keep) ∷ denied (truncation 0 87) 14 0 ∷
+    denied (report 0 86) 17 0 ∷ denied (report 0 86) 17 0 ∷ asked (truncation 0 86) (truncated keep) ∷ [])
+
+unfoldable pub sample10 : List Asked
+sample10 = onceLarger 72057594037927956 (
+    asked (truncation 0 85) (truncated (cut 1280 64)) ∷ asked (truncation 0 86) (truncated (cut 1280 64)) ∷ denied (truncation 0 87) 14 0 ∷
+    asked (report 0 86) done ∷ denied (report 0 86) 17 0 ∷ asked (truncation 0 86) (truncated keep) ∷ [])
 
 unfoldable pub sampleAgrees : Bool
 sampleAgrees =
@@ -181,4 +198,6 @@ sampleAgrees =
     agrees (freshStore 6 8) sample5 &&
     agrees (freshStore 8 9) sample6 &&
     agrees (freshStore 4 6) sample7 &&
-    agrees (freshStore 7 20) sample8
+    agrees (freshStore 7 20) sample8 &&
+    agrees (freshStore 3 20) sample9 &&
+    agrees (freshStore 3 21) sample10

@@ -2,14 +2,16 @@
 -- answer and write by that tip. Assumes nothing.
 use mathlib.Core.Path.{_≡_, refl, sym, ap, _∙_}
 use mathlib.Core.Bool.{Bool, true, false, not, cond, _&&_, _||_}
-use mathlib.Core.List.{List}
-use Prim.Native.Nat.{ℕ, zero, suc, _+_, _-_, _*_, _<_, _≤_, max, pred}
-use native.Mathlib.Nat.{mul-le-mul}
-use native.Mathlib.Numerals.{add-one}
+use mathlib.Core.List.{List, [], _∷_}
+use mathlib.Core.Logic.{⊎-elim}
+use Prim.Native.Nat.{ℕ, zero, suc, _+_, _-_, _*_, _/_, _<_, _≤_, max, pred}
+use native.Mathlib.Nat.{mul-le-mul, div-mul-le-self}
 use native.Mathlib.Omega.{arith}
 use lib.Dec.{leb, ltb}
 use lib.ListN.{length, getD}
 use lib.Seq.{getD-drop}
+use types.Run.{OneOf}
+use denote.Enum.Declared.{tagOf}
 use borrow.Author.Tests.{leb-true, leb-false, not-true, not-false, lt-ltb, le-ltb, le-leb, lt-leb}
 use Rattle.refusal.specs.Outcomes.{granted, refused}
 use Rattle.refusal.specs.Refusals.{wrongShape, outOfRange, batchOpen, ratioOutOfRange, nothingToCut}
@@ -22,23 +24,25 @@ use Rattle.sizes.specs.Sizes.{sizeOf, slabSizes}
 use Rattle.sizes.proofs.Laws.{allBelow-at}
 use Rattle.marks.specs.Marks.{tip}
 use Rattle.id_allocator.specs.Counted.{hinted}
-use Rattle.marks.proofs.LawsCount.{tip-le}
 use Rattle.id_allocator.proofs.LawsCounted.{counted-tip}
-use Rattle.model.specs.Store.{keep, cut, done, gave, truncated, truncation, report, Store}
-use Rattle.model.specs.Tables.{slabTip, allocators}
-use Rattle.model.specs.Lending.{slabTables}
+use Rattle.model.specs.Store.{Store, Cut, keep, cut, done, gave, truncated, truncation, report}
+use Rattle.model.specs.Tables.{capacities, isOpen, slabTip, allocators}
+use Rattle.model.specs.Lending.{slabTables, lentFit}
 use Rattle.model.specs.Lent.{fits}
 use Rattle.model.specs.Tests.{shape}
-use Rattle.model.specs.Truncation.{isTarget, highMark, fill, cutAt, keeps, newLength, bytesGivenBack}
+use Rattle.model.specs.Truncation.{isTarget, highMark, bytesTo, fill, newLength, bytesGivenBack, cutOf, cutAt, keeps}
 use Rattle.model.specs.Step.{refusalOf, refusal, grant, answer, answerBy, unless, slabRefusal}
 use Rattle.model.specs.Memory.{Memory, read, getWord, putWord, countedBy, countedSlabs, usedWords, hintWords, waitingWords, highWords}
 use Rattle.model.specs.MemoryAfter.{withWords, raiseWord, memoryEffect, memoryAfter}
 use Rattle.model.specs.Verdict.{Verdict, ok, refuse, _⨾_, test}
-use Rattle.model.proofs.Slabs.{part-countedSlabs, length-countedSlabs}
-use Rattle.model.proofs.Steps.{Fits, part-long}
-use Rattle.model.proofs.Sizes.{shape-read, fits-range, fits-slot-marks, fits-tallies}
+use Rattle.model.proofs.Slabs.{part-countedSlabs}
+use Rattle.model.proofs.Sizes.{shape-read, slabTip-le}
+use Rattle.model.proofs.Granted.{granted-sizes}
 use Rattle.model.proofs.Verdicts.{test-ok, first-ok, then-ok, assoc}
-use Rattle.truncation.specs.Truncations.{isCut, cutWith}
+use Rattle.truncation.specs.Truncations.{truncatedAnswer}
+use Rattle.truncation.specs.declared.Truncated.{Truncated}
+use Rattle.truncation.specs.declared.Truncated.the-variants as T
+use Rattle.truncation.proofs.Truncated.{the-type}
 
 -- ---- sizes
 size-range : ℕ → Bool
@@ -54,21 +58,59 @@ sizeOf-range k h =
 pub bytes-le : (top size : ℕ) → top < mostSlots → size ≤ 17179869184 → (top + 1) * size ≤ 1125899906842624
 bytes-le top size a b = mul-le-mul {n₂ = mostSlots} {m₂ = 17179869184} (omega arith) b
 
--- ---- by a tip that is not 0
-pub isCut-top : (k high t tip : ℕ) → (tip ≡ 0 → ⊥) → isCut k high t tip ≡ ltb (fill (sizeOf k) (tip - 1) (max high (tip - 1))) t
-unfolding isCut
-isCut-top k high t zero h = absurd (h refl)
-isCut-top k high t (suc top) h = let e : top ≡ suc top - 1 = omega arith in ap (λ x. ltb (fill (sizeOf k) x (max high x)) t) e
+-- and whole slots of what fits
+pub whole-lt : (n size most : ℕ) → n < most → n / size * size < most
+whole-lt n size most h = omega (arith, div-mul-le-self n size)
 
-pub isCut-zero : (k high t tip : ℕ) → tip ≡ 0 → isCut k high t tip ≡ false
-unfolding isCut
-isCut-zero k high t tip e = ap (isCut k high t) e
+-- ---- what becomes of a file
+pub cutAt-zero : (k high t tip : ℕ) → tip ≡ 0 → keep ≡ cutAt k high t tip
+unfolding cutAt
+cutAt-zero k high t tip e = ap (cutAt k high t) (sym e)
 
-pub isCut-tip : (k high t tip : ℕ) → isCut k high t tip ≡ true → 0 < tip
-unfolding isCut
-isCut-tip k high t zero e = let z : _≡_ {A = ℕ} 0 1 = cc in omega arith
-isCut-tip k high t (suc top) e = omega arith
+module _ (k high t tip size top most : ℕ) (h : tip ≡ 0 → ⊥) (s : size ≡ sizeOf k) (p : top ≡ tip - 1) (q : most ≡ max high top) where
+  cutAt-top : cutOf size top most t ≡ cutAt k high t tip
+  unfolding cutAt
+  cutAt-top = (λ i. cutOf (s i) (p i) ((q ∙ ap (max high) p) i) t) ∙ by tip h
+    where
+      by : (n : ℕ) → (n ≡ 0 → ⊥) → cutOf (sizeOf k) (n - 1) (max high (n - 1)) t ≡ cutAt k high t n
+      by zero h = absurd (h refl)
+      by (suc n) h = let e : suc n - 1 ≡ n = omega arith in ap (λ x. cutOf (sizeOf k) x (max high x) t) e
 
+  -- enough in use; nothing left to cut; a cut
+  pub cutAt-full : ltb (fill size top most) t ≡ false → keep ≡ cutAt k high t tip
+  cutAt-full e = ap (λ b. cond (b && ltb (newLength size top) (bytesTo size most)) (cut (newLength size top) (bytesGivenBack size top most)) keep) (sym e) ∙ cutAt-top
+
+  module _ (e : ltb (fill size top most) t ≡ true) (before length : ℕ) (u : before ≡ bytesTo size most) (v : length ≡ newLength size top) where
+    pub cutAt-nothing : before ≤ length → keep ≡ cutAt k high t tip
+    cutAt-nothing l =
+        let f : ltb (newLength size top) (bytesTo size most) ≡ false = le-ltb (newLength size top) (bytesTo size most) (omega (arith, u, v, l)) in
+        (λ i. cond (sym e i && sym f i) (cut (newLength size top) (bytesGivenBack size top most)) keep) ∙ cutAt-top
+
+    pub cutAt-less : length < before → cut length (before - length) ≡ cutAt k high t tip
+    cutAt-less l =
+        let f : ltb (newLength size top) (bytesTo size most) ≡ true = lt-ltb (newLength size top) (bytesTo size most) (omega (arith, u, v, l)) in
+        (λ i. cut (v i) (u i - v i)) ∙ (λ i. cond (sym e i && sym f i) (cut (newLength size top) (bytesGivenBack size top most)) keep) ∙ cutAt-top
+
+-- a file that is cut has a slot in use
+pub cutAt-tip : (k high t tip : ℕ) → keeps (cutAt k high t tip) ≡ false → 0 < tip
+unfolding cutAt
+cutAt-tip k high t zero e = let z : _≡_ {A = ℕ} 0 1 = cc in omega arith
+cutAt-tip k high t (suc top) e = omega arith
+
+-- what a `let .. else` on the answer tells of it
+pub is-cut : (c : Cut) (r : Truncated) → tagOf the-type r ≡ 1 → truncatedAnswer r ≡ granted (truncated c) → keeps c ≡ false
+is-cut (cut n b) r k e = refl
+is-cut keep T.Keep k e = absurd (omega arith)
+is-cut keep (T.Cut length back) k e = let z : _≡_ {A = ℕ} 0 1 = cc in absurd (omega arith)
+is-cut keep (T.Refused r) k e = absurd (omega arith)
+
+pub is-kept : (c : Cut) (r : Truncated) → OneOf (0 ∷ 2 ∷ []) (tagOf the-type r) → truncatedAnswer r ≡ granted (truncated c) → keeps c ≡ true
+is-kept keep r k e = refl
+is-kept (cut n b) T.Keep k e = let z : _≡_ {A = ℕ} 0 1 = cc in absurd (omega arith)
+is-kept (cut n b) (T.Cut l d) k e = ⊎-elim (λ z. absurd (omega arith)) (λ z. absurd (omega arith)) k
+is-kept (cut n b) (T.Refused r) k e = let z : _≡_ {A = ℕ} 0 1 = cc in absurd (omega arith)
+
+-- ---- the high mark
 raiseWord-top : (g : List ℕ) (k tip : ℕ) → (tip ≡ 0 → ⊥) → raiseWord g k tip ≡ putWord g highWords k (max (getWord g highWords k) (tip - 1))
 raiseWord-top g k zero h = absurd (h refl)
 raiseWord-top g k (suc top) h = let e : top ≡ suc top - 1 = omega arith in ap (λ x. putWord g highWords k (max (getWord g highWords k) x)) e
@@ -80,20 +122,6 @@ raised g after k tip high top h p q r = r ∙ ap (putWord g highWords k) (q ∙ 
 
 pub raiseWord-zero : (g : List ℕ) (k tip : ℕ) → tip ≡ 0 → raiseWord g k tip ≡ g
 raiseWord-zero g k tip e = ap (raiseWord g k) e
-
-pub cutWith-is : (k tip size length back : ℕ) → size ≡ sizeOf k → length ≡ newLength size (tip - 1) → back ≡ (tip - 1 + 1) * size - length
-    → granted (truncated (cut length back)) ≡ granted (truncated (cutWith k tip))
-unfolding cutWith
-cutWith-is k tip size length back s l b =
-    let p : tip - 1 ≡ pred tip = omega arith in
-    let l′ : length ≡ newLength (sizeOf k) (pred tip) = l ∙ λ i. newLength (s i) (p i) in
-    let b′ : back ≡ bytesGivenBack (sizeOf k) (pred tip) = b ∙ (λ i. add-one (tip - 1) i * size - length) ∙ λ i. suc (p i) * s i - l′ i in
-    λ i. granted (truncated (cut (l′ i) (b′ i)))
-
-cutAt-is : (s : Store) (k t tip : ℕ) → cutAt s k t tip ≡ cond (isCut k (highMark s k) t tip) (cutWith k tip) keep
-unfolding isCut cutWith
-cutAt-is s k t zero = refl
-cutAt-is s k t (suc top) = refl
 
 -- ---- what is read
 module _ (m : Memory) (k : ℕ) where
@@ -165,26 +193,36 @@ module _ (m : Memory) (k : ℕ) where
       (λ i. tip (p i) (part-at allocators g usedWords (suc k) 0 (omega arith) i))
       ∙ counted-tip (getWord g hintWords (suc k)) (getWord g waitingWords (suc k)) (part (m .slots) (m .slotMarks) k) (getWord g usedWords (suc k))
 
-  slabTip-le : fits slabTables m ≡ true → k < slabs → slabTip (read m) k ≤ mostSlots
-  unfolding read
-  slabTip-le s hk =
-      let r = fits-range slabTables m s in
-      let f : Fits (m .slots) (record { marks = read m .slotMarks; words = m .tallies }) = record {
-        low = r .slots-from;
-        high = r .slots-to;
-        marks-long = length-countedSlabs (m .slots) (m .tallies) slabs 0 (m .slotMarks) ∙ fits-slot-marks slabTables m s;
-        words-long = fits-tallies slabTables m s;
-      } in
-      let l = part-long (m .slots) (record { marks = read m .slotMarks; words = m .tallies }) f k hk .1 in
-      omega (arith, l, r .slots-from, r .slots-to, tip-le (part (m .slots) (read m .slotMarks) k) (getD (read m .tallies .used) (suc k) 0) (omega (arith, l, r .slots-from)))
-
 -- a report asks the same first
 report-is : (m : Memory) (k t : ℕ) → refusal (read m) (report k t)
-    ≡ (refusal (read m) (truncation k t) ⨾ test (keeps (cutAt (read m) k t (slabTip (read m) k))) nothingToCut 0)
+    ≡ (refusal (read m) (truncation k t) ⨾ test (keeps (cutAt k (highMark (read m) k) t (slabTip (read m) k))) nothingToCut 0)
 unfolding refusal refusalOf
 report-is m k t = assoc (shape (read m) (truncation k t)) (slabRefusal (read m) k t) _
 
 -- ---- a slab that may be asked for
+
+-- what a granted question knows
+pub record Passed (s : Store) (k t : ℕ) : Type 0 where
+  pub fit : (capacities (s .ids) (s .slots) && lentFit slabTables s) ≡ true
+  pub shut : isOpen s ≡ false
+  pub slab : leb slabs k ≡ false
+  pub mark : leb (s .slots) (highMark s k) ≡ false
+  pub target : isTarget t ≡ true
+
+pub passed : (s : Store) (k t : ℕ) → refusal s (truncation k t) ≡ ok → Passed s k t
+unfolding refusal refusalOf
+passed s k t e =
+    let r = then-ok _ _ e in
+    let q = then-ok _ _ r in
+    let o = or-false (leb slabs k) (leb (s .slots) (highMark s k)) (test-ok _ _ _ (first-ok _ _ q)) in
+    record {
+      fit = not-false _ (test-ok _ _ _ (first-ok _ _ e));
+      shut = test-ok _ _ _ (first-ok _ _ r);
+      slab = o .0;
+      mark = o .1;
+      target = not-false _ (test-ok _ _ _ (then-ok _ _ q));
+    }
+
 pub record AskedTip (m : Memory) (k t tip : ℕ) : Type 0 where
   pub fine : refusal (read m) (truncation k t) ≡ ok
   pub is : tip ≡ slabTip (read m) k
@@ -193,21 +231,20 @@ pub record AskedTip (m : Memory) (k t tip : ℕ) : Type 0 where
   pub small : tip ≤ mostSlots
 
 pub asked-tip : (m : Memory) (k t tip : ℕ) → granted (gave tip) ≡ answerBy (refusal (read m) (truncation k t)) (gave (slabTip (read m) k)) → AskedTip m k t tip
+unfolding read
 asked-tip m k t tip e = go (refusal (read m) (truncation k t)) refl e
   where
     go : (v : Verdict) → refusal (read m) (truncation k t) ≡ v → granted (gave tip) ≡ answerBy v (gave (slabTip (read m) k)) → AskedTip m k t tip
     go ok p e =
-        let q = sym (asking-read m k t) ∙ p in
-        let f = not-false _ (test-ok _ _ _ (first-ok _ _ q)) in
-        let o = or-false (leb slabs k) (leb (m .slots) (getWord (m .tallies) highWords k)) (test-ok _ _ _ (first-ok _ _ (then-ok _ _ (then-ok _ _ q)))) in
+        let q = passed (read m) k t p in
+        let r = granted-sizes (read m) (truncation k t) p .range in
         let is : tip ≡ slabTip (read m) k = cc in
-        let slab : k < slabs = leb-false slabs k (o .0) in
         record {
           fine = p;
           is = is;
-          slab = slab;
-          high = omega (arith, leb-false (m .slots) (getWord (m .tallies) highWords k) (o .1), fits-range slabTables m f .slots-to);
-          small = omega (arith, slabTip-le m k f slab);
+          slab = leb-false slabs k (q .slab);
+          high = omega (arith, leb-false (m .slots) (highMark (read m) k) (q .mark), high-read m k, r .slots-to);
+          small = omega (arith, slabTip-le (read m) (r .slots-from) k, r .slots-to);
         }
     go (refuse n i) p e = let z : _≡_ {A = ℕ} 0 1 = cc in absurd (omega arith)
 
@@ -215,39 +252,35 @@ module _ (m : Memory) (k t tip : ℕ) (a : AskedTip m k t tip) where
   abbrev g : List ℕ
   g = m .tallies
 
-  abbrev pub cuts : Bool
-  cuts = isCut k (getWord g highWords k) t tip
+  -- by the words: what becomes of the slab's file
+  abbrev pub becomes : Cut
+  becomes = cutAt k (getWord g highWords k) t tip
 
-  cut-read : cutAt (read m) k t (slabTip (read m) k) ≡ cond cuts (cutWith k tip) keep
-  cut-read = (λ i. cutAt (read m) k t (sym (a .is) i)) ∙ cutAt-is (read m) k t tip ∙ ap (λ h. cond (isCut k h t tip) (cutWith k tip) keep) (high-read m k)
+  cut-read : cutAt k (highMark (read m) k) t (slabTip (read m) k) ≡ becomes
+  cut-read = λ i. cutAt k (high-read m k i) t (sym (a .is) i)
 
-  pub truncation-answer : answer (read m) (truncation k t) ≡ granted (truncated (cond cuts (cutWith k tip) keep))
+  pub truncation-answer : answer (read m) (truncation k t) ≡ granted (truncated becomes)
   unfolding answer grant
-  truncation-answer = (λ i. answerBy (a .fine i) (truncated (cutAt (read m) k t (slabTip (read m) k)))) ∙ ap (λ x. granted (truncated x)) cut-read
+  truncation-answer = λ i. answerBy (a .fine i) (truncated (cut-read i))
 
   pub truncation-after : memoryAfter m (truncation k t) ≡ withWords m (raiseWord g k tip)
   unfolding memoryAfter memoryEffect
   truncation-after = λ i. unless (a .fine i) m (withWords m (raiseWord g k (sym (a .is) i)))
 
-  keeps-cut : (b : Bool) → keeps (cond b (cutWith k tip) keep) ≡ not b
-  unfolding cutWith
-  keeps-cut true = refl
-  keeps-cut false = refl
-
-  report-refusal : refusal (read m) (report k t) ≡ test (not cuts) nothingToCut 0
+  report-refusal : refusal (read m) (report k t) ≡ test (keeps becomes) nothingToCut 0
   unfolding _⨾_
-  report-refusal = report-is m k t ∙ (λ i. a .fine i ⨾ test (keeps (cut-read i)) nothingToCut 0) ∙ ap (λ b. test b nothingToCut 0) (keeps-cut cuts)
+  report-refusal = report-is m k t ∙ λ i. a .fine i ⨾ test (keeps (cut-read i)) nothingToCut 0
 
-  pub report-keep : cuts ≡ false → (answer (read m) (report k t) ≡ refused nothingToCut 0) × (memoryAfter m (report k t) ≡ m)
+  pub report-keep : keeps becomes ≡ true → (answer (read m) (report k t) ≡ refused nothingToCut 0) × (memoryAfter m (report k t) ≡ m)
   unfolding answer memoryAfter test
   report-keep e =
-      let r : refusal (read m) (report k t) ≡ refuse nothingToCut 0 = report-refusal ∙ ap (λ b. test (not b) nothingToCut 0) e in
+      let r : refusal (read m) (report k t) ≡ refuse nothingToCut 0 = report-refusal ∙ ap (λ b. test b nothingToCut 0) e in
       ((λ i. answerBy (r i) (grant (read m) (report k t))), λ i. unless (r i) m (memoryEffect m (report k t)))
 
-  pub report-cut : cuts ≡ true → (answer (read m) (report k t) ≡ granted done) × (memoryAfter m (report k t) ≡ withWords m (putWord g highWords k (tip - 1)))
+  pub report-cut : keeps becomes ≡ false → (answer (read m) (report k t) ≡ granted done) × (memoryAfter m (report k t) ≡ withWords m (putWord g highWords k (tip - 1)))
   unfolding answer memoryAfter memoryEffect grant test
   report-cut e =
-      let r : refusal (read m) (report k t) ≡ ok = report-refusal ∙ ap (λ b. test (not b) nothingToCut 0) e in
+      let r : refusal (read m) (report k t) ≡ ok = report-refusal ∙ ap (λ b. test b nothingToCut 0) e in
       let p : pred (slabTip (read m) k) ≡ tip - 1 = ap pred (sym (a .is)) ∙ omega arith in
       ((λ i. answerBy (r i) done), λ i. unless (r i) m (withWords m (putWord g highWords k (p i))))
 
@@ -267,5 +300,5 @@ module _ (m : Memory) (k t n i : ℕ) (r : refusal (read m) (truncation k t) ≡
   pub report-refused : (answer (read m) (report k t) ≡ refused n i) × (memoryAfter m (report k t) ≡ m)
   unfolding answer memoryAfter _⨾_
   report-refused =
-      let q : refusal (read m) (report k t) ≡ refuse n i = report-is m k t ∙ λ j. r j ⨾ test (keeps (cutAt (read m) k t (slabTip (read m) k))) nothingToCut 0 in
+      let q : refusal (read m) (report k t) ≡ refuse n i = report-is m k t ∙ λ j. r j ⨾ test (keeps (cutAt k (highMark (read m) k) t (slabTip (read m) k))) nothingToCut 0 in
       ((λ j. answerBy (q j) (grant (read m) (report k t))), λ j. unless (q j) m (memoryEffect m (report k t)))

@@ -1,1 +1,2 @@
 pub mod Truncations
+pub mod Cuts

@@ -1,7 +1,8 @@
-// The length that a slab's file is cut to, asked for each slab, and the report that a cut was made (document 01, "Defrag and truncation").
+// The length that a slab's file is cut to, asked for each slab, and the report that a cut was made (document 01, "Defrag and truncation";
+// request 2026-05).
 //
 //     match truncation::truncation(caps, &slot_marks, &batch, &mut tallies, slab, 80) {
-//         Truncated::Cut { length, given_back } => ..,  // cut the file to this length, then
+//         Truncated::Cut { length, given_back } => ..,  // cut the file to this length, which gives so many bytes back; then
 //         //     truncation::cut_done(caps, &slot_marks, &batch, &mut tallies, slab, 80);
 //         Truncated::Keep => ..,
 //         Truncated::Refused(refusal) => ..,            // 1, 11, 3, 14
@@ -19,12 +20,12 @@ ghost use Rattle.refusal.specs.Outcomes.{granted};
 ghost use Rattle.address.specs.Address.{slabs, mostSlots};
 ghost use Rattle.model.specs.Store.{truncation, report, gave, truncated, finishedAnswer};
 ghost use Rattle.model.specs.Tables.{slabTip};
-ghost use Rattle.model.specs.Truncation.{isTarget, fill, newLength};
+ghost use Rattle.model.specs.Truncation.{isTarget, bytesTo, fill, targetLength, newLength, cutAt};
 ghost use Rattle.model.specs.Step.{refusal, answerBy};
 ghost use Rattle.model.specs.Memory.{read, getWord, usedWords, hintWords};
 ghost use Rattle.model.specs.Lent.{lentTo, answered, leaves};
 ghost use Rattle.model.specs.MemoryAfter.{raiseWord};
-ghost use Rattle.truncation.specs.Truncations.{askedAnswer, truncatedAnswer, isCut, cutWith};
+ghost use Rattle.truncation.specs.Truncations.{askedAnswer, truncatedAnswer};
 use refusal::Finished;
 use refusal::Refusal;
 use tables::Capacities;
@@ -44,7 +45,7 @@ enum Asked {
 const LEAST_TARGET: u64 = 1;
 
 const MOST_TARGET: u64 = 86;
-// Up to this top a file is cut to what is in use, above it to more.
+// Below this top a file is cut to what is in use, from it on to more.
 const SMALL: u64 = 16;
 
 fn larger(a: u64, b: u64) -> u64
@@ -59,58 +60,66 @@ fn is_target(t: u64) -> bool
     tables::both(LEAST_TARGET <= t, t <= MOST_TARGET)
 }
 
-// ---- the test
+// ---- the lengths
+
+// The bytes of a file up to and with a slot: at most 2^50, so that 115 times as many fit a word.
+fn bytes_to(size: u64, slot: u64) -> u64
+    requires { ⌜ (size ≤ 17179869184) × (slot < mostSlots) ⌝ }
+    ensures { λ r. ⌜ (r ≡ bytesTo size slot) × (r ≤ 1125899906842624) ⌝ }
+{
+    (slot + 1) * size
+}
 
 // Whether less than t percent of the file is in use, by the slab's size, its top slot and its high mark.
 fn sparse(size: u64, top: u64, high: u64, t: u64) -> bool
     requires { ⌜ (1 ≤ size) × (size ≤ 17179869184) × (top < mostSlots) × (high < mostSlots) ⌝ }
     ensures { λ r. ⌜ r ≡ ltb (fill size top high) t ⌝ }
 {
-    (top + 1) * size * 100 / ((high + 1) * size) < t
+    bytes_to(size, top) * 100 / bytes_to(size, high) < t
 }
 
-// The length to cut to.
-fn new_length(size: u64, top: u64) -> u64
+// What is in use, and some more where the top is not small: at most 2^51 bytes, so that a slot more fits a word.
+fn target_length(size: u64, top: u64) -> u64
     requires { ⌜ (size ≤ 17179869184) × (top < mostSlots) ⌝ }
-    ensures { λ r. ⌜ r ≡ newLength size top ⌝ }
+    ensures { λ r. ⌜ (r ≡ targetLength size top) × (r ≤ 2251799813685248) ⌝ }
 {
-    let used = (top + 1) * size;
+    let used = bytes_to(size, top);
     if top < SMALL {
         return used;
     }
     used * 115 / 100
 }
 
-// Whether the slab's file is cut. At tip 0 it is kept.
-fn is_cut(slab: usize, tip: usize, high: u64, t: u64) -> bool
-    requires { ⌜ (slab < slabs) × (tip ≤ mostSlots) × (high < mostSlots) ⌝ }
-    ensures { λ r. ⌜ r ≡ isCut slab high t tip ⌝ }
+// The length to cut to: whole slots.
+fn new_length(size: u64, top: u64) -> u64
+    requires { ⌜ (1 ≤ size) × (size ≤ 17179869184) × (top < mostSlots) ⌝ }
+    ensures { λ r. ⌜ r ≡ newLength size top ⌝ }
 {
-    if tip == 0 {
-        return false;
-    }
-    let top = tip as u64 - 1;
-    sparse(sizes::slab_size(slab), top, larger(high, top), t)
+    (target_length(size, top) + size - 1) / size * size
 }
 
-// The cut of a slab that is cut: its tip is not 0.
-fn cut_of(slab: usize, tip: usize) -> Truncated
-    requires { ⌜ (slab < slabs) × (tip ≤ mostSlots) × (0 < tip) ⌝ }
-    ensures { λ r. ⌜ truncatedAnswer r ≡ granted (truncated (cutWith slab tip)) ⌝ }
+// What becomes of the slab's file, by its tip and its stored high mark. At tip 0 it is kept.
+fn cut_at(slab: usize, high: u64, t: u64, tip: usize) -> Truncated
+    requires { ⌜ (slab < slabs) × (high < mostSlots) × (tip ≤ mostSlots) ⌝ }
+    ensures { λ r. ⌜ truncatedAnswer r ≡ granted (truncated (cutAt slab high t tip)) ⌝ }
 {
+    if tip == 0 {
+        return Truncated::Keep;
+    }
     let size = sizes::slab_size(slab);
     let top = tip as u64 - 1;
-    let used = (top + 1) * size;
+    let high = larger(high, top);
+    if !sparse(size, top, high, t) {
+        return Truncated::Keep;
+    }
+    let before = bytes_to(size, high);
     let length = new_length(size, top);
-    if used <= length {
-        return Truncated::Cut {
-            length,
-            given_back: 0,
-        };
+    if before <= length {
+        return Truncated::Keep;
     }
     Truncated::Cut {
         length,
-        given_back: used - length,
+        given_back: before - length,
     }
 }
 
@@ -208,10 +217,7 @@ pub fn truncation(
             let slab = slab as usize;
             let high = tables::get(tallies, tables::HIGH, slab);
             raise(tallies, slab, tip);
-            if is_cut(slab, tip, high, t) {
-                return cut_of(slab, tip);
-            }
-            Truncated::Keep
+            cut_at(slab, high, t, tip)
         }
         Asked::Refused(refusal) => Truncated::Refused(refusal),
     }
@@ -244,9 +250,9 @@ pub fn cut_done(
         Asked::Tip(tip) => {
             let slab = slab as usize;
             let high = tables::get(tallies, tables::HIGH, slab);
-            if !is_cut(slab, tip, high, t) {
+            let Truncated::Cut { .. } = cut_at(slab, high, t, tip) else {
                 return Finished::Refused(Refusal::of(Refusal::NOTHING_TO_CUT));
-            }
+            };
             tables::put(tallies, tables::HIGH, slab, tip as u64 - 1);
             Finished::Done
         }

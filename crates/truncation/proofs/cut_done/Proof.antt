@@ -2,14 +2,14 @@
 -- is answered and written. Assumes nothing.
 use mathlib.Core.Path.{sym, ap, _∙_}
 use native.Mathlib.Omega.{arith}
-use borrow.Author.Tests.{not-true, not-false}
 use borrow.Author.Needs.{needs}
 use Rattle.refusal.specs.declared.Finished.the-variants as F
 use Rattle.model.specs.Store.{finishedAnswer}
+use Rattle.model.specs.Truncation.{cutAt, keeps}
 use Rattle.model.specs.Lending.{slabTables}
 use Rattle.model.specs.Lent.{lentBy}
-use Rattle.truncation.specs.Truncations.{askedAnswer, isCut}
-use Rattle.truncation.proofs.Laws.{asked-tip, asked-refused, isCut-tip, report-keep, report-cut, report-refused}
+use Rattle.truncation.specs.Truncations.{askedAnswer}
+use Rattle.truncation.proofs.Laws.{asked-tip, asked-refused, is-cut, is-kept, cutAt-tip, report-keep, report-cut, report-refused}
 use Rattle.truncation.proofs.cut_done.Statement.{statement}
 use Rattle.truncation.proofs.cut_done.Tie as tie
 
@@ -22,11 +22,15 @@ enum-known-tip c = search
 get-requires : tie.Need-get-requires
 get-requires c κs = search
 
-is-cut-requires : tie.Need-is-cut-requires
-is-cut-requires c κs =
+cut-at-requires : tie.Need-cut-at-requires
+cut-at-requires c κs =
     let a = c .before .before .before .before .before .before .before .before .before .before .args in
-    let q = asked-tip (lentBy slabTables (a .caps .ids) (a .caps .slots) (a .slot-marks .now) (a .batch .now) (a .tallies .now)) (a .slab) (a .t) _ (sym (ap askedAnswer (c .before .before .before .tip .given .1)) ∙ c .before .before .before .before .before .ask .ensures) in
-    (q .slab, q .small, omega (arith, q .high, c .get .ensures))
+    let m = lentBy slabTables (a .caps .ids) (a .caps .slots) (a .slot-marks .now) (a .batch .now) (a .tallies .now) in
+    let q = asked-tip m (a .slab) (a .t) _ (sym (ap askedAnswer (c .before .before .before .tip .given .1)) ∙ c .before .before .before .before .before .ask .ensures) in
+    (q .slab, omega (arith, q .high, c .get .ensures), q .small)
+
+enum-told : tie.Need-enum-told
+enum-told c = search
 
 of-requires : tie.Need-of-requires
 of-requires c κs = search
@@ -40,12 +44,12 @@ returns c =
     let m = lentBy slabTables (a .caps .ids) (a .caps .slots) (a .slot-marks .now) (a .batch .now) (a .tallies .now) in
     let tip = c .before .before .before .before .before .before .tip .given .0 .0 in
     let q = asked-tip m (a .slab) (a .t) tip (sym (ap askedAnswer (c .before .before .before .before .before .before .tip .given .1)) ∙ c .before .before .before .before .before .before .before .before .ask .ensures) in
-    let cuts = ap (λ h. isCut (a .slab) h (a .t) tip) (sym (c .before .before .before .get .ensures)) ∙ sym (c .before .before .is-cut .ensures) ∙ not-true _ (c .before .if1 .taken) in
-    let r = report-keep m (a .slab) (a .t) tip q cuts in
+    let kept = ap (λ h. keeps (cutAt (a .slab) h (a .t) tip)) (sym (c .before .before .before .get .ensures)) ∙ is-kept _ (c .before .before .cut-at .result) (c .before .match2 .keys2) (c .before .before .cut-at .ensures) in
+    let r = report-keep m (a .slab) (a .t) tip q kept in
     ((λ i. finishedAnswer (F.Refused (c .of .ensures i))) ∙ sym (r .0), sym (r .1))
 
 sub-put : tie.Need-sub-put
-sub-put c = let low = isCut-tip _ _ _ _ (sym (c .before .before .is-cut .ensures) ∙ not-false _ (c .before .if1 .left)) in search needs
+sub-put c = let low = cutAt-tip _ _ _ _ (is-cut _ (c .before .before .before .cut-at .result) (c .before .before .match2 .keys1) (c .before .before .before .cut-at .ensures)) in search needs
 
 put-requires : tie.Need-put-requires
 put-requires c κs = search
@@ -58,12 +62,12 @@ same-length-2 c = search
 
 returns-2 : tie.Need-returns-2
 returns-2 c =
-    let a = c .before .before .before .before .before .before .before .before .before .before .before .before .before .before .before .before .args in
+    let a = c .before .before .before .before .before .before .before .before .before .before .before .before .before .before .before .before .before .args in
     let m = lentBy slabTables (a .caps .ids) (a .caps .slots) (a .slot-marks .now) (a .batch .now) (a .tallies .now) in
-    let tip = c .before .before .before .before .before .before .before .before .before .tip .given .0 .0 in
-    let q = asked-tip m (a .slab) (a .t) tip (sym (ap askedAnswer (c .before .before .before .before .before .before .before .before .before .tip .given .1)) ∙ c .before .before .before .before .before .before .before .before .before .before .before .ask .ensures) in
-    let cuts = ap (λ h. isCut (a .slab) h (a .t) tip) (sym (c .before .before .before .before .before .before .get .ensures)) ∙ sym (c .before .before .before .before .before .is-cut .ensures) ∙ not-false _ (c .before .before .before .before .if1 .left) in
-    let r = report-cut m (a .slab) (a .t) tip q cuts in
+    let tip = c .before .before .before .before .before .before .before .before .before .before .tip .given .0 .0 in
+    let q = asked-tip m (a .slab) (a .t) tip (sym (ap askedAnswer (c .before .before .before .before .before .before .before .before .before .before .tip .given .1)) ∙ c .before .before .before .before .before .before .before .before .before .before .before .before .ask .ensures) in
+    let cut = ap (λ h. keeps (cutAt (a .slab) h (a .t) tip)) (sym (c .before .before .before .before .before .before .before .get .ensures)) ∙ is-cut _ (c .before .before .before .before .before .before .cut-at .result) (c .before .before .before .before .before .match2 .keys1) (c .before .before .before .before .before .before .cut-at .ensures) in
+    let r = report-cut m (a .slab) (a .t) tip q cut in
     (sym (r .0), (λ i. lentBy slabTables (a .caps .ids) (a .caps .slots) (a .slot-marks .now) (a .batch .now) (c .before .before .put .ensures i)) ∙ sym (r .1))
 
 same-length-3 : tie.Need-same-length-3
@@ -83,7 +87,8 @@ cut-done-spec =
     ask-requires
     enum-known-tip
     get-requires
-    is-cut-requires
+    cut-at-requires
+    enum-told
     of-requires
     same-length
     returns

@@ -1,27 +1,32 @@
--- `truncation::new_length` meets its contract. The bytes up to a slot are at most 2^50 (bytes-le), so 115 times as many fit. Assumes
--- nothing.
-use native.Mathlib.Numerals.{add-one}
+-- `truncation::new_length` meets its contract: the target, which is at most 2^51, and a slot fit a word, and so do whole slots of them
+-- (whole-lt). Assumes nothing.
+use mathlib.Core.Path.{ap}
 use native.Mathlib.Omega.{arith}
-use borrow.Author.Tests.{lt-ltb, le-ltb}
 use borrow.Author.Needs.{needs}
-use Rattle.truncation.proofs.Laws.{bytes-le}
+use Rattle.model.specs.Truncation.{wholeSlots}
+use Rattle.truncation.proofs.Laws.{whole-lt}
 use Rattle.truncation.proofs.new_length.Statement.{statement}
 use Rattle.truncation.proofs.new_length.Tie as tie
 
-add-used : tie.Need-add-used
-add-used c = search needs
+target-length-requires : tie.Need-target-length-requires
+target-length-requires c κs = search
 
-mul-used : tie.Need-mul-used
-mul-used c = let b = bytes-le (c .args .top) (c .args .size) (c .pre .1) (c .pre .0) in record { fits = omega arith }
+add-result : tie.Need-add-result
+add-result c = search needs
 
-returns : tie.Need-returns
-returns c = simp (add-one, lt-ltb _ _ (c .if1 .taken))
+sub-result : tie.Need-sub-result
+sub-result c = search needs
+
+div-result : tie.Need-div-result
+div-result c = search needs
 
 mul-result : tie.Need-mul-result
-mul-result c = let b = bytes-le (c .before .args .top) (c .before .args .size) (c .before .pre .1) (c .before .pre .0) in record { fits = omega arith }
+mul-result c = record { fits = whole-lt _ _ _ (omega (arith, c .target-length .ensures .1)) }
 
-returns-2 : tie.Need-returns-2
-returns-2 c = simp (add-one, le-ltb _ _ (c .if1 .left))
+returns : tie.Need-returns
+returns c = ap (wholeSlots (c .before .args .size)) (c .target-length .ensures .0)
 
 pub new-length-spec : {M : Type 1} → statement M
-new-length-spec = tie.close (tie.spec add-used mul-used returns mul-result returns-2)
+new-length-spec =
+    tie.close
+    (tie.spec target-length-requires add-result sub-result div-result mul-result returns)

@@ -1,33 +1,26 @@
--- `truncation::sparse` meets its contract. The bytes up to a slot are at most 2^50 (bytes-le), so no product wraps. Assumes nothing.
-use native.Mathlib.Numerals.{add-one}
-use native.Mathlib.Omega.{arith}
+-- `truncation::sparse` meets its contract: what both lengths are, their calls say. Assumes nothing.
+use lib.Dec.{ltb}
+use Prim.Native.Nat.{_*_, _/_}
 use borrow.Author.Needs.{needs}
-use Rattle.truncation.proofs.Laws.{bytes-le}
 use Rattle.truncation.proofs.sparse.Statement.{statement}
 use Rattle.truncation.proofs.sparse.Tie as tie
 
-add-result : tie.Need-add-result
-add-result c = search needs
+bytes-to-requires : tie.Need-bytes-to-requires
+bytes-to-requires c κs = search
 
 mul-result : tie.Need-mul-result
-mul-result c = let b = bytes-le (c .args .top) (c .args .size) (c .pre .2) (c .pre .1) in record { fits = omega arith }
+mul-result c = search needs
 
-mul-result-2 : tie.Need-mul-result-2
-mul-result-2 c = let b = bytes-le (c .args .top) (c .args .size) (c .pre .2) (c .pre .1) in record { fits = omega arith }
-
-add-result-2 : tie.Need-add-result-2
-add-result-2 c = search needs
-
-mul-result-3 : tie.Need-mul-result-3
-mul-result-3 c = let b = bytes-le (c .args .high) (c .args .size) (c .pre .3) (c .pre .1) in record { fits = omega arith }
+bytes-to-requires-2 : tie.Need-bytes-to-requires-2
+bytes-to-requires-2 c κs = search
 
 div-result : tie.Need-div-result
 div-result c = search needs
 
 returns : tie.Need-returns
-returns c = simp add-one
+returns c = λ i. ltb (c .before .bytes-to .ensures .0 i * 100 / c .bytes-to2 .ensures .0 i) (c .before .before .args .t)
 
 pub sparse-spec : {M : Type 1} → statement M
 sparse-spec =
     tie.close
-    (tie.spec add-result mul-result mul-result-2 add-result-2 mul-result-3 div-result returns)
+    (tie.spec bytes-to-requires mul-result bytes-to-requires-2 div-result returns)
