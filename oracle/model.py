@@ -679,13 +679,23 @@ class Store:
         return DONE
 
 
-def cut_or_keep(size, top, high, t):
+def target_length(size, top, high, t):
+    """Document 01: none where enough is in use, else the length to cut to."""
     current = (top + 1) * size
-    most = (high + 1) * size
-    if current * 100 // most >= t:
+    if current * 100 // ((high + 1) * size) >= t:
+        return None
+    return current if top < UNPADDED_SLOTS else current * MARGIN // 100
+
+
+def cut_or_keep(size, top, high, t):
+    """Request 2026-05: that length rounded up to whole slots, where this is below the length before, and the bytes between the two."""
+    target = target_length(size, top, high, t)
+    if target is None:
         return KEEP
-    length = current if top < UNPADDED_SLOTS else current * MARGIN // 100
-    return Cut(length, max(current - length, 0))
+    before = (high + 1) * size
+    whole_slots = target // size if target % size == 0 else target // size + 1
+    length = whole_slots * size
+    return Cut(length, before - length) if length < before else KEEP
 
 
 # ---------------------------------------------------------------------------------------------------------------------

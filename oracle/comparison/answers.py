@@ -15,6 +15,7 @@ from model import DONE, HELD, KEEP, SLABS, SLAB_SIZES, Store, refused
 
 from comparison import any_tables, cutoffs, leaves, spoken
 from comparison.beside import HERE, LIBRARY, ask, library_says
+from comparison.cuts import cut_all
 from comparison.histories import OTHER_CLASS_IN_RUST, RATIOS, T_OF_THE_RUST, asserts_in_rust, some_lengths
 
 DIRECTORY = os.path.join(HERE, "..", "answers")
@@ -23,7 +24,7 @@ LARGEST_SLOT_LISTED = 98_304
 
 class Lists:
     """Lines of one file. A granted call is asked of the Rust too, and its answer is the one written. The library, where it is asked, is asked
-    a store's refused ones besides; a read that the Rust grants and the port refuses is asked of both."""
+    a store's refused ones besides. Where the two answer otherwise, as docs/DIFFERENCES.md has it, each is asked for its own."""
 
     def __init__(self, mode, title):
         self.mode = mode
@@ -31,19 +32,15 @@ class Lists:
         self.lines = []
         self.of_rust, self.of_library = [], []
 
-    def ask(self, line, expected):
-        """A line for a driver, and what it has to answer for the lines beside it to be the Rust's."""
+    def ask(self, line, expected, listed=None):
+        """A line for a driver, and what it has to answer for the lines beside it to be the Rust's; `listed` of the library, where that is
+        another."""
         self.of_rust.append((line, expected))
-        self.of_library.append((line, library_says(expected)))
+        self.of_library.append((line, listed or library_says(expected)))
 
     def ask_library(self, line, refusal):
         """A line that the Rust does not refuse, or not so."""
         self.of_library.append((line, f"refused {refusal.number} {refusal.index}"))
-
-    def ask_both(self, line, rust_answer, refusal):
-        """A line that the library refuses and the Rust answers, as docs/DIFFERENCES.md has it."""
-        self.of_rust.append((line, rust_answer))
-        self.ask_library(line, refusal)
 
     def refuse(self, call, refusal):
         self.lines.append(f"model {call} refused {refusal.number} {refusal.index}")
@@ -155,7 +152,7 @@ def list_read(lists, call, slot):
     told = "" if refused(answer) else len(answer)
     leaf(lists, call, call, answer, f"ok {told}", spoken.ok(told))
     if refused(answer) and answer.number in (model.BEYOND_ROOM, model.GAP_NOT_ZERO):
-        lists.ask_both(call, spoken.ok(leaves.rust_hands_back(slot)), answer)
+        lists.ask(call, spoken.ok(leaves.rust_hands_back(slot)), f"refused {answer.number} {answer.index}")
 
 
 def list_gaps(lists, chance):
@@ -344,30 +341,29 @@ class Listed:
             self.lists.lines.append(f"{source} {call} {slab} {t} {said}")
 
     def written_batch(self, rows):
-        """On files the Rust does all of this in one call. What it did shows in its files and its high marks."""
+        """On files the Rust does all of this in one call. What it did shows in its files and its high marks. A cut's length may be
+        another there, and its bytes given back always are."""
         if not self.offer(rows):
             return
         self.commit()
         store = self.store
-        cuts = given_back = 0
+        cuts = rust_back = given_back = 0
         after = []
-        for slab in range(SLABS):
-            if not store.tip(1 + slab):
-                continue
-            answer = store.truncation(slab, T_OF_THE_RUST)
-            self.tell_cut("truncation", slab, T_OF_THE_RUST, answer, "rust")
+        for slab, answer, by_rust in cut_all(store, T_OF_THE_RUST):
+            self.tell_cut("truncation", slab, T_OF_THE_RUST, answer, "rust" if answer == by_rust else "model")
             if answer != KEEP:
-                self.tell_cut("report", slab, T_OF_THE_RUST, store.report_cut(slab, T_OF_THE_RUST), "rust")
-                after.append((f"file_length {slab}", spoken.ok(answer.length)))
+                self.tell_cut("report", slab, T_OF_THE_RUST, DONE, "rust")
+                after.append((f"file_length {slab}", spoken.ok(by_rust.length), spoken.ok(answer.length)))
                 cuts += 1
+                rust_back += by_rust.given_back
                 given_back += answer.given_back
             after.append((f"high {slab}", spoken.ok(store.high[slab])))
-        self.lists.ask(f"batch {spoken.updates(rows)}", f"ok {cuts} {given_back} *")
+        self.lists.ask(f"batch {spoken.updates(rows)}", f"ok {cuts} {rust_back} *", f"ok {cuts} {given_back} *")
         for id, is_store, _ in rows:
             if is_store:
                 self.lists.ask(f"lookup {id}", spoken.ok(store.locations[id]))
-        for line, answer in after:
-            self.lists.ask(line, answer)
+        for words in after:
+            self.lists.ask(*words)
 
 
 def same_kind(rows):
@@ -506,7 +502,29 @@ def stores_list():
         random_history(lists, chance, chance.randint(2, 12), chance.randint(1, 9), False, 35)
     for _ in range(6):
         random_history(lists, chance, chance.randint(200, 512), chance.randint(64, 512), False, 30)
+    cut_edges(lists, chance)
     return lists
+
+
+def cut_edges(lists, chance):
+    """P10 and the edges of a cut, as request 2026-05 has them: the high mark is the last slot there is. From 85 percent on, rounding may leave
+    nothing to cut."""
+    marks = ((40, 99), (17, 99), (16, 99), (1, 99), (1, 100), (100, 99), (17, 19), (17, 20), (21, 24), (16, 18))
+    for slab in (0, 40, SLABS - 1):
+        for tip, high in marks:
+            slots = high + 1
+            listed = Listed(lists, chance, 3, slots, [3], False)
+            listed.rebuild([(1, model.pack(slots, slab, tip - 1)), (2, model.pack(slots, slab, high))][: 1 if tip > high else 2])
+            listed.truncation(slab, 86)
+            if tip <= high:
+                listed.offer([(2, False, 0)])
+                listed.commit()
+            listed.release()
+            for t in (0, 1, 80, 85, 86, 87):
+                listed.truncation(slab, t)
+            for _ in range(2):
+                listed.report(slab, 86)
+            listed.truncation(slab, 86)
 
 
 def files_list():
@@ -581,7 +599,7 @@ def large_list():
 class ModelLists(Lists):
     """No line is the Rust's: it has no such states."""
 
-    def ask(self, line, expected):
+    def ask(self, line, expected, listed=None):
         pass
 
     def ask_library(self, line, refusal):

@@ -127,6 +127,9 @@ DIFFERENCES = [
     # Named by document 02.
     ("gap-of-an-empty-object", "mapper", [(ONE_BYTE, "ok 0")], ONE_BYTE_MODEL, Refused(18)),
     ("gap-behind-three-bytes", "mapper", [(BEHIND_THREE, "ok 3")], BEHIND_THREE_MODEL, Refused(18)),
+    ("ragged-length", "heap", [("truncations 1 0 17 99", "ok 1 0 1251 16")], lambda: model.cut_or_keep(64, 16, 99, 80), model.Cut(1_280, 5_120)),
+    ("nought-given-back", "heap", [("truncations 1 0 16 99", "ok 1 0 1024 15")], lambda: model.cut_or_keep(64, 15, 99, 80),
+     model.Cut(1_024, 5_376)),
     # Found since.
     ("id-freed-twice", "mapper",
      [("new_id", "ok 1"), ("batch 1 f 1 0 0", "ok 0"), ("batch 1 f 1 0 0", "ok 0"), ("release", "ok"), ("new_id", "ok 1"),

@@ -3,10 +3,11 @@
 import zlib
 
 import model
-from model import DONE, HELD, KEEP, SLABS, SLAB_SIZES, Store, refused
+from model import HELD, KEEP, SLABS, SLAB_SIZES, Store, refused
 
 from comparison import spoken
 from comparison.beside import Beside
+from comparison.cuts import cut_all
 from comparison.progress import counted
 
 T_OF_THE_RUST = 80
@@ -42,6 +43,7 @@ class History:
         self.lengths = lengths
         self.seed = 0
         self.stored = {}
+        # By slab: the Rust's file, and ours.
         self.file_lengths = {}
         self.refusals = 0
         beside.begin()
@@ -112,25 +114,23 @@ class History:
             if is_store:
                 self.stored[id] = spoken.object_bytes(id, length, self.seed)
                 slab, slot = model.unpack(store.slots, store.locations[id])
-                self.file_lengths[slab] = max(self.file_lengths.get(slab, 0), (slot + 1) * SLAB_SIZES[slab])
-        cuts = given_back = 0
-        for slab in range(SLABS):
-            if store.tip(1 + slab) == 0:
-                continue
-            answer = store.truncation(slab, T_OF_THE_RUST)
+                end = (slot + 1) * SLAB_SIZES[slab]
+                self.file_lengths[slab] = tuple(max(length, end) for length in self.file_lengths.get(slab, (0, 0)))
+        cuts = rust_back = given_back = 0
+        for slab, answer, by_rust in cut_all(store, T_OF_THE_RUST):
             if answer != KEEP:
-                assert store.report_cut(slab, T_OF_THE_RUST) == DONE
-                self.file_lengths[slab] = answer.length
+                self.file_lengths[slab] = by_rust.length, answer.length
                 cuts += 1
+                rust_back += by_rust.given_back
                 given_back += answer.given_back
         written = sum(length for _, is_store, length in rows if is_store)
         files = len({model.slab_for_size(length) for _, is_store, length in rows if is_store})
-        self.beside.call(f"batch {words}", spoken.ok(cuts, given_back, written, files))
+        self.beside.call(f"batch {words}", spoken.ok(cuts, rust_back, written, files), spoken.ok(cuts, given_back, written, files))
         for id, is_store, _ in rows:
             if is_store:
                 self.beside.call(f"lookup {id}", spoken.ok(store.lookup(id)))
-        for slab, length in self.file_lengths.items():
-            self.beside.call(f"file_length {slab}", spoken.ok(length))
+        for slab, (rust_length, length) in self.file_lengths.items():
+            self.beside.call(f"file_length {slab}", spoken.ok(rust_length), spoken.ok(length))
             self.beside.call(f"high {slab}", spoken.ok(store.high[slab]))
 
     def read(self):

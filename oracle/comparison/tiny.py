@@ -12,10 +12,11 @@ from collections import deque
 from itertools import permutations, product
 
 import model
-from model import DONE, KEEP, SLABS, Store, refused
+from model import KEEP, Store, refused
 
 from comparison import spoken
 from comparison.beside import Beside
+from comparison.cuts import cut_all
 from comparison.histories import T_OF_THE_RUST
 from comparison.progress import NowAndThen
 
@@ -50,10 +51,10 @@ def all_rows(lengths):
 
 
 def changing_calls(lengths, on_files):
-    """(driver's line, what it does on the model, the driver's words for its answer)"""
-    said = lambda answer: "ok"
-    numbers = lambda answer: spoken.ok(*answer)
-    yield "new_id", Store.new_id, spoken.ok
+    """(driver's line, what it does on the model, the Rust's words for its answer and the library's where they are others)"""
+    said = lambda answer: ("ok", None)
+    numbers = lambda answer: (spoken.ok(*answer), None)
+    yield "new_id", Store.new_id, lambda answer: (spoken.ok(answer), None)
     yield "release", Store.release, said
     if not on_files:
         yield "commit", Store.commit, said
@@ -62,27 +63,24 @@ def changing_calls(lengths, on_files):
         columns = list(zip(*batch)) or [(), (), ()]
         if on_files:
             make_call = lambda store, batch=batch, columns=columns: written_batch(store, batch, columns)
-            yield f"batch {spoken.updates(batch)}", make_call, numbers
+            yield f"batch {spoken.updates(batch)}", make_call, lambda answer: answer
         else:
             make_call = lambda store, columns=columns: store.offer(*columns)
             yield f"offer {spoken.updates(batch)}", make_call, numbers
 
 
 def written_batch(store, batch, columns):
-    """Offer, commit, and the truncation of every slab: files cut, bytes given back, bytes written, files written."""
+    """Offer, commit, and the truncation of every slab: files cut, bytes given back, bytes written, files written, as the Rust says it and as
+    the library does."""
     answer = store.offer(*columns)
     if refused(answer):
         return answer
     assert not refused(store.commit())
-    cuts = given_back = 0
-    for slab in range(SLABS):
-        cut = store.truncation(slab, T_OF_THE_RUST)
-        if cut != KEEP:
-            assert store.report_cut(slab, T_OF_THE_RUST) == DONE
-            cuts += 1
-            given_back += cut.given_back
+    made = [(answer, by_rust) for _, answer, by_rust in cut_all(store, T_OF_THE_RUST) if answer != KEEP]
     stored = [length for _, is_store, length in batch if is_store]
-    return cuts, given_back, sum(stored), len({model.slab_for_size(length) for length in stored})
+    written = sum(stored), len({model.slab_for_size(length) for length in stored})
+    words = lambda cuts: spoken.ok(len(cuts), sum(cut.given_back for cut in cuts), *written)
+    return words([by_rust for _, by_rust in made]), words([answer for answer, _ in made])
 
 
 def reading_calls(store):
@@ -137,7 +135,7 @@ def run(lengths, on_files=False):
                 continue
             for earlier in path:
                 beside.call(earlier, None)
-            beside.call(line, said(answer))
+            beside.call(line, *said(answer))
             beside.call(f"dump {IDS} {SLOTS}", spoken.dump(after))
             reach(after, path + (line,))
     beside.finish()

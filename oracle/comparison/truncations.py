@@ -4,35 +4,41 @@ The Rust has one t, 80. `oracle/compare --other-t` builds copies with that one c
 """
 
 import model
-from model import DONE, KEEP, SLABS, SLAB_SIZES, Store
+from model import KEEP, SLABS, SLAB_SIZES, Store
 
 from comparison.beside import Beside
+from comparison.cuts import cut
 from comparison.histories import T_OF_THE_RUST
 from comparison.progress import counted
 
 
 def after(slab, tip, high, t):
-    """The file's length, the high mark and whether it was cut, by the model."""
+    """The file's length, the high mark and the bytes given back, none where it was kept: by the model, and by the Rust."""
     store = Store(2, 65_536 if max(tip, high + 1) > 256 else 256)
     store.slot_marks[slab * store.slots + tip - 1] = model.HELD
     store.used[1 + slab] = 1
     store.high[slab] = high
-    before = max(tip, high + 1) * SLAB_SIZES[slab]
-    answer = store.truncation(slab, t)
+    high = max(high, tip - 1)
+    answer, by_rust = cut(store, slab, t)
     if answer == KEEP:
         assert store.report_cut(slab, t) == model.Refused(model.NOTHING_TO_CUT)
-        return before, store.high[slab], None
-    assert store.report_cut(slab, t) == DONE
-    return answer.length, store.high[slab], answer.given_back
+    ours, rusts = (
+        ((high + 1) * SLAB_SIZES[slab], high, None) if made == KEEP else (made.length, tip - 1, made.given_back) for made in (answer, by_rust)
+    )
+    assert store.high[slab] == ours[1]
+    return ours, rusts
+
+
+def told(answers):
+    cuts = [given_back for _, _, given_back in answers if given_back is not None]
+    return " ".join(["ok", str(len(cuts)), str(sum(cuts)), *(f"{length} {high}" for length, high, _ in answers)])
 
 
 def ask_about(beside, rows, t):
-    """Rows (slab, tip, high), each slab once: one pass of the Rust over all of them."""
-    answers = [after(*row, t) for row in rows]
-    cuts = [given_back for _, _, given_back in answers if given_back is not None]
+    """Rows (slab, tip, high), each slab once: one pass over all of them."""
+    ours, rusts = zip(*(after(*row, t) for row in rows))
     line = " ".join(["truncations", str(len(rows)), *(f"{slab} {tip} {high}" for slab, tip, high in rows)])
-    after_words = " ".join(f"{length} {high}" for length, high, _ in answers)
-    beside.call(line, f"ok {len(cuts)} {sum(cuts)} {after_words}")
+    beside.call(line, told(rusts), told(ours))
     return len(rows)
 
 
@@ -55,9 +61,10 @@ def run(chance, limit, passes, t=T_OF_THE_RUST):
             high = chance.choice((chance.randint(0, 255), min(tip * 5 // 4, 255), min(tip * 5 // 4 + 1, 255)))
             rows.append((slab, tip, high))
         compared += ask_about(beside, rows, t)
-    # The largest numbers that the port's capacities allow, in the smallest and the largest slab.
+    # The largest numbers that the port's capacities allow, in the smallest and the largest slab. The most slots in use that are below t percent.
+    sparse = (65_536 * t - 1) // 100
     for slab in (0, SLABS - 1):
-        for tip, high in ((65_536, 65_535), (52_428, 65_535), (52_429, 65_535), (1, 65_535), (17, 65_535), (65_536, 0)):
+        for tip, high in ((65_536, 65_535), (sparse, 65_535), (sparse + 1, 65_535), (1, 65_535), (17, 65_535), (65_536, 0)):
             compared += ask_about(beside, [(slab, tip, high)], t)
     beside.finish()
     return compared, beside.differences

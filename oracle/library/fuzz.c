@@ -133,9 +133,11 @@ static size_t ids, slots; /* as claimed to the call */
 static size_t true_ids, true_slots; /* that the slices are made for */
 static size_t wrong_slice; /* that gets a wrong length; MOST_SLICES for none */
 
-static void choose_capacities(bool large) {
+/* Files of more than 16 slots are cut with a margin. */
+static void choose_capacities(enum call call, bool large) {
+    bool cuts = call == TRUNCATION || call == CUT_DONE;
     true_ids = large ? WENTUHORO_MOST_IDS : 2 + below(5);
-    true_slots = large ? WENTUHORO_MOST_SLOTS : 1 + below(4);
+    true_slots = large ? WENTUHORO_MOST_SLOTS : cuts && in_hundred(50) ? 16 + below(85) : 1 + below(4);
     ids = true_ids;
     slots = true_slots;
     if (in_hundred(2)) ids = ONE_OF(0, 1, 65537, UINT64_MAX, true_ids + 1);
@@ -195,6 +197,17 @@ static void agree(struct slice *id_marks, struct slice *locations, struct slice 
         if (at < slot_marks->length) slot_marks->at[at] = 1;
         if (owners != NULL && at < owners->length) words(owners)[at] = id;
     }
+}
+
+/* A slab whose last slots are free again, so that cuts come too. The high mark is anywhere, at the end, or, from 17 slots in
+ * use on, where 15 percent more, rounded up, leaves nothing or one slot to cut. */
+static void once_larger(struct slice *slot_marks, struct slice *tallies, uint64_t slab) {
+    if (slab >= WENTUHORO_SLABS || slot_marks->length != WENTUHORO_SLABS * true_slots || tallies->length != WENTUHORO_TALLY_WORDS) return;
+    uint64_t tip = 1 + below(true_slots), near = (tip * 23 + 19) / 20 - 1 + below(2);
+    uint8_t *marks = slot_marks->at + slab * true_slots;
+    memset(marks + tip, 0, true_slots - tip);
+    marks[tip - 1] = 1;
+    words(tallies)[395 + slab] = ONE_OF(below(true_slots), true_slots - 1, near < true_slots ? near : true_slots - 1);
 }
 
 /* ---- one case */
@@ -307,6 +320,7 @@ static uint64_t store_call(enum call call) {
     case CUT_DONE:
         n = number(ONE_OF(0, 0, 1, 77, below(78), 78, UINT64_MAX));
         t = number(ONE_OF(1, 80, 86, 86, 0, 87, 1 + below(86), UINT64_MAX));
+        if (in_hundred(80)) once_larger(sm, ta, n);
         if (call == CUT_DONE) {
             keep_before();
             return wentuhoro_cut_done(ids, slots, B(sm), P(ba), P(ta), n, t);
@@ -482,7 +496,7 @@ static void one_case(bool large) {
     seed_of_case = seed;
     enum call call = (enum call)(in_hundred(85) ? below(CLASS) : CLASS + below(CALLS - CLASS));
     lent = number_count = 0;
-    choose_capacities(large && call < CLASS);
+    choose_capacities(call, large && call < CLASS);
     uint64_t status = call < CLASS ? store_call(call) : leaf_call(call);
     wrong_on_purpose(status);
     look(call, status);

@@ -9,7 +9,7 @@ use crate::judge::{Judge, Rust};
 use crate::mapper_store::MapperStore;
 use crate::our_heap::OurHeap;
 use crate::ours::Ours;
-use crate::{answer, full, histories, leaf_lines, tiny, Store};
+use crate::{answer, cuts, full, histories, leaf_lines, tiny, Store};
 
 #[derive(Default)]
 pub struct Counts {
@@ -79,6 +79,19 @@ impl Both {
         Judge { rust: &*self.rust, ids: self.ids, slots: self.slots }
     }
 
+    /// The Rust's answer; of a cut, which is a listed difference, in the port's words.
+    fn rust_says(&mut self, counts: &mut Counts, call: &Call, line: &str) -> String {
+        let marks = self.rust.files().map(cuts::high_marks);
+        let rust = &mut self.rust;
+        let said = catch_unwind(AssertUnwindSafe(|| answer(&mut **rust, line))).unwrap_or_else(|_| "a panic of the Rust".into());
+        let (Some(heap), Some(marks)) = (self.rust.files(), marks) else {
+            return said;
+        };
+        let ours = cuts::in_our_words(heap, call, &marks, said.clone());
+        counts.listed += u64::from(ours != said);
+        ours
+    }
+
     /// Makes a call on both sides; where document 01 refuses it, on the library alone. Whether the answers agree.
     pub fn call(&mut self, counts: &mut Counts, call: Call) -> bool {
         if matches!(call, Call::Defrag(bits) if self.judge().asserts(f32::from_bits(bits))) {
@@ -96,11 +109,7 @@ impl Both {
                 counts.refusals += 1;
                 format!("refused {number} {index}")
             }
-            None => {
-                let rust = &mut self.rust;
-                let said = catch_unwind(AssertUnwindSafe(|| answer(&mut **rust, &line)));
-                said.unwrap_or_else(|_| "a panic of the Rust".into())
-            }
+            None => self.rust_says(counts, &call, &line),
         };
         let agree = counts.compare(&self.history, &line, &library, &expected);
         self.history.push(line);

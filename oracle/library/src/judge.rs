@@ -5,7 +5,7 @@ use std::sync::Arc;
 use ebr::Ebr;
 
 use crate::calls::Call;
-use crate::heap::probe;
+use crate::heap::{probe, Heap};
 use crate::heap_store::HeapStore;
 use crate::id_allocator::probe::free_and_tip;
 use crate::mapper_store::MapperStore;
@@ -20,6 +20,8 @@ pub trait Rust: Store {
     fn mapper(&self) -> &ObjectLocationMapper;
     fn waiting(&self) -> &Ebr<DeferredFree, 16, 16>;
     fn is_open(&self) -> bool;
+    /// The heap, where there are files.
+    fn files(&self) -> Option<&Heap>;
 }
 
 impl Rust for MapperStore {
@@ -34,6 +36,10 @@ impl Rust for MapperStore {
     fn is_open(&self) -> bool {
         self.open.is_some()
     }
+
+    fn files(&self) -> Option<&Heap> {
+        None
+    }
 }
 
 impl Rust for HeapStore {
@@ -47,6 +53,10 @@ impl Rust for HeapStore {
 
     fn is_open(&self) -> bool {
         false
+    }
+
+    fn files(&self) -> Option<&Heap> {
+        Some(self.heap())
     }
 }
 

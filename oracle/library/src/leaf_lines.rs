@@ -8,7 +8,7 @@ use crate::leaves::Leaves;
 use crate::our_heap::OurHeap;
 use crate::our_leaves::{self, tail_bytes};
 use crate::words::{hex, Words};
-use crate::answer;
+use crate::{answer, cuts};
 use wentuhoro::SLAB_SIZES;
 
 /// Beyond this a slot is not built in memory.
@@ -206,15 +206,19 @@ pub fn truncations(counts: &mut Counts, chance: &mut Chance, passes: u64) {
     let (mut rust, mut ours) = (HeapStore::new(), OurHeap::new(2, 1, 80));
     for pass in 0..passes {
         let most = if pass % 10 == 9 { 65_536 } else { 256 };
-        let rows: Vec<String> = (0..78)
+        let rows: Vec<(u64, u64, u64)> = (0..78)
             .map(|slab| {
                 let tip = chance.among(1, most);
                 let near = (tip * 5 / 4 + chance.among(0, 2)).min(most - 1);
                 let any = chance.among(0, most - 1);
-                format!("{slab} {tip} {}", chance.of(&[near, any]))
+                (slab, tip, chance.of(&[near, any]))
             })
             .collect();
-        let line = format!("truncations 78 {}", rows.join(" "));
-        counts.compare(&[], &line, &answer(&mut ours, &line), &answer(&mut rust, &line));
+        let told: Vec<String> = rows.iter().map(|(slab, tip, high)| format!("{slab} {tip} {high}")).collect();
+        let line = format!("truncations 78 {}", told.join(" "));
+        let said = answer(&mut rust, &line);
+        let expected = cuts::passes_in_our_words(&rows, &said);
+        counts.listed += u64::from(expected != said);
+        counts.compare(&[], &line, &answer(&mut ours, &line), &expected);
     }
 }

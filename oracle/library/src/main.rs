@@ -34,6 +34,7 @@ mod words;
 mod both;
 mod calls;
 mod chance;
+mod cuts;
 mod full;
 mod guarded;
 mod histories;
