@@ -181,13 +181,17 @@ uint64_t wentuhoro_defrag(size_t ids, size_t slots, const uint64_t *locations, s
                           const uint64_t *tallies, size_t tallies_len, float ratio, uint64_t *moved_ids, size_t moved_ids_len,
                           uint64_t *moved_locations, size_t moved_locations_len, uint64_t *count, size_t count_len);
 
-/* Whether a slab's file is cut, for a target t of 1 to 86 (sled's is 80). Three values: 1, the length to cut it to, the bytes given back;
- * or three zeros to keep it. Writes tallies: the slab's high mark. Refuses: 1, 11, 3, 14. */
+/* Whether a slab's file is cut, for a target t of 1 to 86 (sled's is 80): the percentage of it that must be in use. Its length before is
+ * counted up to and with the slab's high mark, the highest slot in use that asking has found since the last cut, fresh or rebuild. Three
+ * values: 1, the length to cut it to, which is a whole number of slots, and the bytes given back, the length before less the new one, never
+ * 0; or three zeros to keep it, where enough is in use or in whole slots nothing is left to cut. A file that reaches further than the high
+ * mark gives back more than is told. Writes tallies: the slab's high mark. Refuses: 1, 11, 3, 14. */
 uint64_t wentuhoro_truncation(size_t ids, size_t slots, const uint8_t *slot_marks, size_t slot_marks_len, const uint64_t *batch,
                               size_t batch_len, uint64_t *tallies, size_t tallies_len, uint64_t slab, uint64_t t, uint64_t *cut,
                               size_t cut_len);
 
-/* A slab's file was cut. Writes tallies: the slab's high mark. Refuses: 1, 11, 3, 14, 17. */
+/* A slab's file was cut: its high mark is its last slot in use. Writes tallies: the high mark. Refuses: 1, 11, 3, 14, then 17 where
+ * wentuhoro_truncation says keep. */
 uint64_t wentuhoro_cut_done(size_t ids, size_t slots, const uint8_t *slot_marks, size_t slot_marks_len, const uint64_t *batch,
                             size_t batch_len, uint64_t *tallies, size_t tallies_len, uint64_t slab, uint64_t t);
 

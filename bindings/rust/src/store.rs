@@ -40,7 +40,9 @@ pub struct AllocatorStats {
 /// The length that a slab's file is to be cut to, and the bytes that this gives back.
 #[derive(Clone, Copy, Debug, PartialEq, Eq, Hash)]
 pub struct Cut {
+    /// A whole number of slots, below the length before.
     pub length: u64,
+    /// The length before, counted up to and with the slab's high mark, less the new one: never 0. A file that reaches further gives back more.
     pub given_back: u64,
 }
 
@@ -224,7 +226,11 @@ impl Store {
         std::array::from_fn(|at| (granted[at], freed[at]))
     }
 
-    /// Whether a slab's file is to be cut, for a target `t` of 1 to 86 (sled's is 80). Raises the slab's high mark to its last slot.
+    /// Whether a slab's file is to be cut, for a target `t` of 1 to 86 (sled's is 80), which is the percentage of it that must be in use. Raises the
+    /// slab's high mark to its last slot in use: the mark is the highest that was asked about since the last cut, fresh or rebuild.
+    ///
+    /// A file is cut to what is in use, and from 17 slots on to 15 percent more, rounded up to whole slots. `None` where enough is in use, and where
+    /// in whole slots nothing is left to cut.
     ///
     /// Refuses while a batch is open with 11, a slab past 77 with 3, another t with 14.
     ///
@@ -234,13 +240,14 @@ impl Store {
     /// # let ids: Vec<u64> = (0..100).map(|_| store.allocate_object_id()).collect::<Result<_, _>>()?;
     /// # store.offer(&ids.iter().map(|&id| Update::Store { id, length: 3 }).collect::<Vec<_>>())?;
     /// # store.commit()?;
-    /// // A hundred objects in slab 0, of which the last 60 go.
+    /// // A hundred objects in slab 0, whose slots have 64 bytes; all but 17 of them go.
     /// assert_eq!(store.truncation(0, 80)?, None);
-    /// store.offer(&ids[40..].iter().map(|&id| Update::Free { id }).collect::<Vec<_>>())?;
+    /// store.offer(&ids[17..].iter().map(|&id| Update::Free { id }).collect::<Vec<_>>())?;
     /// store.commit()?;
     /// store.release()?;
     /// let cut = store.truncation(0, 80)?.unwrap();
-    /// assert_eq!(cut.length, 2944);
+    /// // Of 6,400 bytes 20 slots are left.
+    /// assert_eq!((cut.length, cut.given_back), (1_280, 5_120));
     /// store.cut_done(0, 80)?;
     /// assert_eq!(store.truncation(0, 80)?, None);
     /// # Ok::<(), wentuhoro::Refusal>(())
@@ -252,7 +259,7 @@ impl Store {
         Ok((is_cut == 1).then_some(Cut { length, given_back }))
     }
 
-    /// A slab's file was cut: its high mark is its last slot again. Refuses as [`truncation`](Self::truncation) does, and with 17 where
+    /// A slab's file was cut: its high mark is its last slot in use again. Refuses as [`truncation`](Self::truncation) does, and with 17 where
     /// that says keep.
     pub fn cut_done(&mut self, slab: usize, t: u64) -> Result<(), Refusal> {
         lend!(self, wentuhoro_cut_done: reads slot_marks, reads batch, writes tallies; slab as u64, t)

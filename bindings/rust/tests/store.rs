@@ -1,5 +1,5 @@
 //! The store through the crate: what the examples in its documentation leave out.
-use wentuhoro::{AllocatorStats, RefusalKind, SlabAddress, Store, Update};
+use wentuhoro::{AllocatorStats, Cut, RefusalKind, SlabAddress, Store, Update};
 
 fn store(id: u64, length: u64) -> Update {
     Update::Store { id, length }
@@ -69,4 +69,45 @@ fn rows_are_refused_with_the_rows_index_and_change_nothing() {
     assert_eq!(refusal(rebuilt.cut_done(3, 80)), (RefusalKind::NothingToCut, 0));
     rebuilt.fresh();
     assert_eq!((rebuilt.live(), rebuilt.stats()), (vec![], AllocatorStats::default()));
+}
+
+/// A store of one object in slot `tip - 1` of a slab whose high mark is `high`, a slot that is free again.
+fn once_larger(slab: usize, tip: usize, high: usize) -> Store {
+    let mut store = Store::new(3, high + 1).unwrap();
+    let at = |slot| SlabAddress::from_slab_slot(slab, slot).unwrap();
+    store.rebuild(&[(1, at(tip - 1)), (2, at(high))]).unwrap();
+    assert_eq!(store.truncation(slab, 86), Ok(None));
+    store.offer(&[Update::Free { id: 2 }]).unwrap();
+    store.commit().unwrap();
+    store.release().unwrap();
+    store
+}
+
+#[test]
+fn cuts_are_whole_slots_and_say_what_they_give_back() {
+    const LARGEST: u64 = 17_179_869_184;
+    for (slab, tip, high, t, expected) in [
+        // P10, and 29 bytes that rounding up takes back.
+        (0, 40, 99, 80, Some((2_944, 3_456))),
+        (0, 17, 99, 80, Some((1_280, 5_120))),
+        (0, 16, 99, 80, Some((1_024, 5_376))),
+        (0, 17, 19, 86, None),
+        (0, 17, 20, 86, Some((1_280, 64))),
+        // One slot in use: 1 percent of 100, less of 101.
+        (0, 1, 99, 1, None),
+        (0, 1, 100, 1, Some((64, 6_400))),
+        // The largest slots, as many as there can be.
+        (77, 56_360, 65_535, 86, Some((64_814 * LARGEST, 722 * LARGEST))),
+        (77, 56_361, 65_535, 86, None),
+        (77, 1, 65_535, 1, Some((LARGEST, 65_535 * LARGEST))),
+    ] {
+        let mut store = once_larger(slab, tip, high);
+        let cut = expected.map(|(length, given_back)| Cut { length, given_back });
+        assert_eq!(store.truncation(slab, t), Ok(cut), "tip {tip}, high mark {high}, t {t}");
+        if cut.is_some() {
+            store.cut_done(slab, t).unwrap();
+        }
+        // Nothing is left to cut, or never was.
+        assert_eq!(refusal(store.cut_done(slab, t)), (RefusalKind::NothingToCut, 0));
+    }
 }
