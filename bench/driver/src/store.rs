@@ -305,6 +305,9 @@ fn fixed_costs(rounds: u32, picture: &mut Picture) {
     ours_alone(rounds, &mut table, ours);
 }
 
+/// Of slab 0, among the tallies.
+const HIGH_MARK: usize = 395;
+
 fn ours_alone(rounds: u32, table: &mut Table, ours: &mut Ours) {
     let mut abandon = Usual::new();
     for _ in 0..rounds * 50 {
@@ -314,11 +317,17 @@ fn ours_alone(rounds: u32, table: &mut Table, ours: &mut Ours) {
     table.ours_alone("abandon of one", abandon.each(1));
     let counters = best(rounds, 1_000, &mut [&mut |calls| (0..calls).for_each(|_| { black_box(ours.counters()); })]);
     table.ours_alone("counters, all 79 pairs", counters[0]);
+    assert_eq!(ours.truncation(0)[0], 0);
     let truncation = best(rounds, 1_000, &mut [&mut |calls| (0..calls).for_each(|_| { black_box(ours.truncation(0)); })]);
-    table.ours_alone("truncation of one slab", truncation[0]);
+    table.ours_alone("truncation of one slab, kept", truncation[0]);
+    // The high mark is the last slot, and asking leaves it there.
+    ours.tallies[HIGH_MARK] = 63;
+    assert_eq!(ours.truncation(0)[0], 1);
+    let cut = best(rounds, 1_000, &mut [&mut |calls| (0..calls).for_each(|_| { black_box(ours.truncation(0)); })]);
+    table.ours_alone("truncation of one slab, cut", cut[0]);
     let mut cut_done = Usual::new();
     for _ in 0..rounds * 50 {
-        ours.tallies[395] = 63;
+        ours.tallies[HIGH_MARK] = 63;
         cut_done.of(|| ours.cut_done(0));
     }
     table.ours_alone("cut report", cut_done.each(1));
