@@ -3,12 +3,11 @@ use mathlib.Core.Bool.{Bool, true, false, cond, _&&_, _||_, not}
 use mathlib.Core.List.{List, [], _∷_}
 use mathlib.Core.Path.{_≡_, refl, sym, ap, _∙_}
 use Prim.Native.Nat.{ℕ, zero, suc, _+_, _-_, _*_, _/_, _%_, _^_, _≤_, _<_}
-use native.Mathlib.Numerals.{add-one, one-add}
+use native.Mathlib.Numerals.{one-add}
 use native.Mathlib.Omega.{arith}
 use lib.Dec.{leb, ltb, eqb, lit≤, lit<}
-use lib.ListN.{length, getD, drop, List·getD-eq-default}
-use lib.Seq.{drop-cons}
-use borrow.Author.Tests.{lt-ltb, ltb-true, ltb-false, leb-true, leb-false, eqb-true, ne-eqb}
+use lib.ListN.{length, getD, List·getD-eq-default}
+use borrow.Author.Tests.{lt-ltb, le-ltb, ltb-true, ltb-false, leb-true, leb-false, eqb-true, ne-eqb}
 use mathlib.Core.Logic.{⊎-elim}
 use native.Mathlib.Nat.{eq-or-lt-of-le, le-of-suc-le-suc, lt-trans, not-le-of-lt, mul-assoc, pow-suc}
 use lib.Count.{trailingZeros, under}
@@ -19,6 +18,7 @@ use Rattle.list_parts.specs.Lists.{elem}
 use Rattle.list_parts.proofs.Lists.{elem-cases}
 use Rattle.sizes.specs.Sizes.{slabSizes, sizeOf, isSlabSize, slabs, fieldWidth, checkWidth, longestObject, firstFit, slabFor, classOf}
 use Rattle.sizes.specs.OddPart.{goes}
+use Rattle.sizes.specs.Edges.{longestInFirst, longestWith8}
 use Rattle.sizes.specs.declared.Class.the-variants.{Slab, Refused}
 
 -- ---- fieldWidth
@@ -36,25 +36,6 @@ fieldWidth-le s = by (leb s 255) (leb s 65535) (leb s 4294967295)
 pub length-slabSizes : length slabSizes ≡ 78
 unfolding slabSizes
 length-slabSizes = refl
-
--- ---- slabFor: what is left of the walk at slab k
-abbrev pub walk : ℕ → ℕ → ℕ
-walk n k = k + firstFit n (drop k slabSizes)
-
--- a slab is the one, or is passed
-pub walk-turn : (n k : ℕ) → k < 78 → walk n k ≡ cond (leb (n + fieldWidth (sizeOf k) + checkWidth) (sizeOf k)) k (walk n (k + 1))
-unfolding firstFit sizeOf
-walk-turn n k h =
-    let l : k < length slabSizes = rw length-slabSizes h in
-    rw (drop-cons slabSizes k 0, add-one) (by (leb (n + fieldWidth (sizeOf k) + checkWidth) (sizeOf k)) (firstFit n (drop (suc k) slabSizes)))
-  where
-    by : (t : Bool) (f : ℕ) → k + cond t 0 (suc f) ≡ cond t k (suc k + f)
-    by true f = omega arith
-    by false f = omega arith
-
-pub walk-end : (n : ℕ) → walk n 78 ≡ 78
-unfolding firstFit slabSizes
-walk-end n = refl
 
 -- ---- the class rule: what is found takes n bytes, and no smaller slab does
 fits-found : (n : ℕ) (ss : List ℕ) → firstFit n ss < length ss → n + fieldWidth (getD ss (firstFit n ss) 0) + checkWidth ≤ getD ss (firstFit n ss) 0
@@ -88,35 +69,6 @@ slabFor-takes n h = fits-found n slabSizes (rw length-slabSizes h)
 pub slabFor-least : (n j : ℕ) → j < slabFor n → sizeOf j < n + fieldWidth (sizeOf j) + checkWidth
 unfolding slabFor sizeOf
 slabFor-least n j h = fits-least n slabSizes j h
-
--- the walk may begin at any slab up to the one
-firstFit-drop : (n k : ℕ) (ss : List ℕ) → k ≤ firstFit n ss → k + firstFit n (drop k ss) ≡ firstFit n ss
-unfolding firstFit
-firstFit-drop n zero ss h = omega arith
-firstFit-drop n (suc k) [] h = absurd (omega arith)
-firstFit-drop n (suc k) (s ∷ ss) h = by (leb (n + fieldWidth s + checkWidth) s) h (firstFit-drop n k ss)
-  where
-    by : (t : Bool) → suc k ≤ cond t 0 (suc (firstFit n ss)) → (k ≤ firstFit n ss → k + firstFit n (drop k ss) ≡ firstFit n ss)
-        → suc k + firstFit n (drop k ss) ≡ cond t 0 (suc (firstFit n ss))
-    by true h r = absurd (omega arith)
-    by false h r = omega (arith, r (le-of-suc-le-suc h))
-
-pub walk-from : (n k : ℕ) → k ≤ slabFor n → walk n k ≡ slabFor n
-unfolding slabFor
-walk-from n k h = firstFit-drop n k slabSizes h
-
--- ---- classOf
-pub classOf-slab : (n k : ℕ) → slabFor n ≡ k → k < slabs → classOf n ≡ Slab k
-unfolding classOf
-classOf-slab n k e h = simp (e, lt-ltb k slabs h)
-
--- the slab at which the walk stands takes n
-pub classOf-found : (n k : ℕ) → k < 78 → walk n k ≡ slabFor n → leb (n + fieldWidth (sizeOf k) + checkWidth) (sizeOf k) ≡ true → classOf n ≡ Slab k
-classOf-found n k h w t = classOf-slab n k (sym w ∙ walk-turn n k h ∙ ap (λ (b : Bool). cond b k (walk n (k + 1))) t) h
-
-pub classOf-none : (n : ℕ) → slabFor n ≡ slabs → classOf n ≡ Refused (refusal tooLarge 0)
-unfolding classOf
-classOf-none n e = simp e
 
 -- ---- a test that holds at every number below n, or at every entry of a list
 abbrev pub allBelow : (ℕ → Bool) → ℕ → Bool
@@ -158,27 +110,66 @@ pub sizeOf-worked : (k : ℕ) → k < 78 → worked k ≡ sizeOf k
 unfolding sizeOf slabSizes
 sizeOf-worked k h = eqb-true _ _ (allBelow-at (λ k. eqb (worked k) (sizeOf k)) 78 k refl h)
 
-step : (k : ℕ) → k < 77 → sizeOf k < sizeOf (suc k)
-unfolding sizeOf slabSizes
-step k h = ltb-true _ _ (allBelow-at (λ k. ltb (sizeOf k) (sizeOf (suc k))) 77 k refl h)
+-- what is larger at each slab than at the one before is larger than at all before
+ascends : (f : ℕ → ℕ) → allBelow (λ k. ltb (f k) (f (suc k))) 77 ≡ true → (j k : ℕ) → j < k → k < 78 → f j < f k
+ascends f e j zero h l = absurd (omega arith)
+ascends f e j (suc k) h l =
+    let step = ltb-true _ _ (allBelow-at (λ k. ltb (f k) (f (suc k))) 77 k e (omega arith)) in
+    ⊎-elim (λ (q : j ≡ k). rw q step) (λ (q : j < k). lt-trans (ascends f e j k q (omega arith)) step) (eq-or-lt-of-le (le-of-suc-le-suc h))
 
--- each slab is larger than the ones before
 pub sizeOf-ascends : (j k : ℕ) → j < k → k < 78 → sizeOf j < sizeOf k
-sizeOf-ascends j zero h l = absurd (omega arith)
-sizeOf-ascends j (suc k) h l =
-    ⊎-elim (λ (q : j ≡ k). rw q (step k (omega arith))) (λ (q : j < k). lt-trans (sizeOf-ascends j k q (omega arith)) (step k (omega arith)))
-    (eq-or-lt-of-le (le-of-suc-le-suc h))
+unfolding sizeOf slabSizes
+sizeOf-ascends = ascends sizeOf refl
 
--- a slab that is no larger than n bytes is passed, and so are those before it
-pub slabFor-passed : (n k : ℕ) → k < 78 → sizeOf k ≤ n → k + 1 ≤ slabFor n
-slabFor-passed n k h l =
-    by-test (ltb k (slabFor n)) (λ q. omega (arith, ltb-true k (slabFor n) q))
-    (λ q.
-    let u : slabFor n ≤ k = ltb-false k (slabFor n) q in
+-- ---- slabFor by the longest object that each slab takes
+abbrev pub longest : ℕ → ℕ
+longest slab = longestObject (sizeOf slab)
+
+longest-ascends : (j k : ℕ) → j < k → k < 78 → longest j < longest k
+unfolding longestObject fieldWidth sizeOf slabSizes
+longest-ascends = ascends longest refl
+
+-- the slab of n bytes comes after one that does not take them
+slabFor-after : (n k : ℕ) → k < 78 → longest k < n → k < slabFor n
+unfolding longestObject
+slabFor-after n k h l =
+    by-test (ltb k (slabFor n)) (ltb-true k (slabFor n))
+    (λ t.
+    let upto : slabFor n ≤ k = ltb-false k (slabFor n) t in
     let takes = slabFor-takes n (omega arith) in
-    ⊎-elim (λ (e : slabFor n ≡ k). absurd (omega (arith, ap sizeOf e)))
-    (λ (j : slabFor n < k). absurd (omega (arith, sizeOf-ascends (slabFor n) k j h)))
-    (eq-or-lt-of-le u))
+    ⊎-elim (λ (e : slabFor n ≡ k). absurd (omega (arith, ap longest e)))
+    (λ (j : slabFor n < k). absurd (omega (arith, longest-ascends (slabFor n) k j h)))
+    (eq-or-lt-of-le upto))
+
+-- a slab that takes n bytes is theirs, or a smaller one is
+slabFor-upto : (n k : ℕ) → n + fieldWidth (sizeOf k) + checkWidth ≤ sizeOf k → slabFor n ≤ k
+slabFor-upto n k h = by-test (ltb k (slabFor n)) (λ t. absurd (omega (arith, slabFor-least n k (ltb-true k (slabFor n) t)))) (ltb-false k (slabFor n))
+
+-- n bytes are of the slab after k where k does not take them and that one does
+pub slabFor-next : (n k : ℕ) → k < 77 → longest k < n → n ≤ longest (suc k) → slabFor n ≡ suc k
+unfolding longestObject
+slabFor-next n k h l m = omega (arith, slabFor-after n k (omega arith) l, slabFor-upto n (suc k) (omega arith))
+
+pub slabFor-first : (n : ℕ) → n ≤ longestInFirst → slabFor n ≡ 0
+unfolding sizeOf slabSizes fieldWidth
+slabFor-first n h = omega (arith, slabFor-upto n 0 (omega arith))
+
+pub slabFor-some : (n : ℕ) → n ≤ longestWith8 → slabFor n < slabs
+unfolding sizeOf slabSizes fieldWidth
+slabFor-some n h = omega (arith, slabFor-upto n 77 (omega arith))
+
+slabFor-none : (n : ℕ) → longestWith8 < n → slabs ≤ slabFor n
+unfolding longestObject fieldWidth sizeOf slabSizes
+slabFor-none n h = slabFor-after n 77 (lit< tt) h
+
+-- ---- classOf
+pub classOf-slab : (n k : ℕ) → n ≤ longestWith8 → k ≡ slabFor n → Slab k ≡ classOf n
+unfolding classOf
+classOf-slab n k h e = simp (e, lt-ltb (slabFor n) slabs (slabFor-some n h))
+
+pub classOf-none : (n : ℕ) → longestWith8 < n → Refused (refusal tooLarge 0) ≡ classOf n
+unfolding classOf
+classOf-none n h = simp (le-ltb (slabFor n) slabs (slabFor-none n h))
 
 -- ---- isSlabSize: by the odd part and the power of two
 halve : (n t : ℕ) → n % 2 ≡ 0 → n / 2 / 2 ^ t * 2 ^ t ≡ n / 2 → n / 2 ^ suc t * 2 ^ suc t ≡ n

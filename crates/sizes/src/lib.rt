@@ -6,15 +6,32 @@
 //     }
 ghost use mathlib.Core.Path.{_≡_};
 ghost use mathlib.Core.Bool.{_&&_};
-ghost use Prim.Native.Nat.{_+_, _≤_, _<_};
+ghost use Prim.Native.Nat.{_≤_, _<_};
 ghost use lib.Dec.{leb};
-ghost use Rattle.sizes.specs.Sizes.{slabs, slabSizes, sizeOf, isSlabSize, fieldWidth, longestObject, slabFor, classOf};
+ghost use Rattle.sizes.specs.Sizes.{slabSizes, sizeOf, isSlabSize, fieldWidth, longestObject, slabFor, classOf};
 ghost use Rattle.sizes.specs.OddPart.{goes};
+ghost use Rattle.sizes.specs.Edges.{longestInFirst, longestWith2, longestWith8};
 use refusal::Refusal;
 
 pub const SLABS: usize = 78;
 
 pub const CHECK_WIDTH: u64 = 4;
+
+// The longest object of the smallest slab, and with a length field of 1, 2, 4 and 8 bytes.
+const LONGEST_IN_FIRST: u64 = 59;
+
+const LONGEST_WITH_1: u64 = 219;
+
+const LONGEST_WITH_2: u64 = 57338;
+
+const LONGEST_WITH_4: u64 = 3221225464;
+
+const LONGEST_WITH_8: u64 = 17179869172;
+
+// The one size above 65,536 that is neither a power of two nor half as much again, and its slab.
+const EXTRA_SIZE: u64 = 163840;
+
+const EXTRA_SLAB: usize = 43;
 
 pub const SLAB_SIZES: [u64; SLABS] = [
     64,
@@ -110,17 +127,17 @@ pub fn slab_sizes() -> [u64; SLABS]
 }
 
 // The size of a slab; 0 for a number that is no slab. A constant array is laid on the stack wherever it is read, so
-// the entry is worked out: four sizes to each doubling up to 65,536, then two, and one more at 43.
+// the entry is worked out: four sizes to each doubling up to 65,536, then two, and one more.
 pub fn slab_size(slab: usize) -> u64
     ensures { λ r. ⌜ r ≡ sizeOf slab ⌝ }
 {
     if slab < 41 {
         return ((4 + slab % 4) << (4 + slab / 4)) as u64;
     }
-    if slab == 43 {
-        return 163840;
+    if slab == EXTRA_SLAB {
+        return EXTRA_SIZE;
     }
-    if slab < 43 {
+    if slab < EXTRA_SLAB {
         return ((3 + (slab - 41) % 2) << (15 + (slab - 41) / 2)) as u64;
     }
     if slab < SLABS {
@@ -188,60 +205,42 @@ pub fn is_slab_size(s: u64) -> bool
     goes_with(s >> power, power)
 }
 
-// Whether a slot of size s takes n bytes with their frame. No sum that could wrap: s is asked for the frame first.
-fn takes(s: u64, n: u64) -> bool
-    ensures { λ r. ⌜ r ≡ leb (n + fieldWidth s + 4) s ⌝ }
+// The slab of n bytes where sizes come four to each doubling. `last` is one less than what they, their length field and their check take: a slot of
+// so many bytes or fewer is too short, and the slab is the number of such sizes. The three leading bits of `last` and the zeros above them tell it:
+// at 64 they are 4 and 57, and 4 + 225 - 4 * 57 is 1.
+fn by_quarters(n: u64) -> usize
+    requires { ⌜ (longestInFirst < n) × (n ≤ longestWith2) ⌝ }
+    ensures { λ r. ⌜ r ≡ slabFor n ⌝ }
 {
-    let frame = field_width(s) + CHECK_WIDTH;
-    frame <= s && n <= s - frame
+    let last = if n <= LONGEST_WITH_1 { n + 4 } else { n + 5 };
+    let zeros = u64::leading_zeros(last);
+    (last >> (61 - zeros)) as usize + 225 - (4 * zeros) as usize
 }
 
-// The largest slab that is no larger than n, by n's leading bits; 0 where n is below them all. Nothing is proved of it but that it is a slab:
-// `passed` asks the table.
-fn guess(n: u64) -> usize
-    ensures { λ r. ⌜ r < slabs ⌝ }
+// The same by two leading bits, where sizes come two to each doubling: at 65,536 they are 2 and 47, and 2 + 133 - 2 * 47 is 41; one more from the extra
+// size on.
+fn by_halves(n: u64) -> usize
+    requires { ⌜ (longestWith2 < n) × (n ≤ longestWith8) ⌝ }
+    ensures { λ r. ⌜ r ≡ slabFor n ⌝ }
 {
-    let zeros = u64::leading_zeros(n);
-    if 57 < zeros {
-        return 0;
-    }
-    if 48 <= zeros {
-        return (4 * (57 - zeros)) as usize + (n >> (61 - zeros)) as usize % 4;
-    }
-    if 30 <= zeros {
-        let half = (n >> (62 - zeros)) as usize % 2;
-        if n < 196608 {
-            return (134 - 2 * zeros) as usize + half;
-        }
-        return (135 - 2 * zeros) as usize + half;
-    }
-    77
+    let last = if n <= LONGEST_WITH_4 { n + 7 } else { n + 11 };
+    let zeros = u64::leading_zeros(last);
+    let base: usize = if last < EXTRA_SIZE { 133 } else { 134 };
+    (last >> (62 - zeros)) as usize + base - (2 * zeros) as usize
 }
 
-// So many slabs are no larger than n: they cannot take n bytes and a frame.
-fn passed(n: u64) -> usize
-    ensures { λ r. ⌜ (r ≤ slabs) × (r ≤ slabFor n) ⌝ }
-{
-    let slab = guess(n);
-    if slab_size(slab) <= n {
-        return slab + 1;
-    }
-    0
-}
-
-// The first slab that n bytes and their frame fit: the smallest, or one of the next three after those that are passed.
+// The first slab that n bytes and their frame fit.
 pub fn slab_for_size(n: u64) -> Class
     ensures { λ r. ⌜ r ≡ classOf n ⌝ }
 {
-    if takes(slab_size(0), n) {
+    if n <= LONGEST_IN_FIRST {
         return Class::Slab(0);
     }
-    let mut slab = passed(n);
-    while slab < SLABS {
-        if takes(slab_size(slab), n) {
-            return Class::Slab(slab);
-        }
-        slab += 1;
+    if n <= LONGEST_WITH_2 {
+        return Class::Slab(by_quarters(n));
+    }
+    if n <= LONGEST_WITH_8 {
+        return Class::Slab(by_halves(n));
     }
     Class::Refused(Refusal {
         number: Refusal::TOO_LARGE,
