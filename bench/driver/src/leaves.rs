@@ -2,8 +2,9 @@
 use std::hint::black_box;
 
 use crate::heap::probe;
-use crate::ours;
+use crate::ours::{self, Batch, Ours};
 use crate::picture::Picture;
+use crate::store::BATCH;
 use crate::timing::best;
 
 extern "C" {
@@ -54,18 +55,69 @@ fn checks(title: &str, lengths: &[usize], rounds: u32, picture: &mut Picture) {
     }
 }
 
+const SIZES: [(&str, u64); 3] = [("below 60", 60), ("below 4 KiB", 4096), ("below 16 GiB", 1 << 34)];
+/// So many batches of sizes in turn that no processor learns their classes by heart.
+const BATCHES: usize = 64;
+
+/// Sizes in no order that shows (splitmix64), the same in every run.
+fn spread(most: u64) -> Vec<u64> {
+    let mixed = |i: u64| {
+        let a = i.wrapping_mul(0x9E37_79B9_7F4A_7C15);
+        let b = (a ^ (a >> 30)).wrapping_mul(0xBF58_476D_1CE4_E5B9);
+        let c = (b ^ (b >> 27)).wrapping_mul(0x94D0_49BB_1331_11EB);
+        c ^ (c >> 31)
+    };
+    (1..=(BATCH * BATCHES) as u64).map(|i| mixed(i) % most).collect()
+}
+
 fn classes(rounds: u32, picture: &mut Picture) {
     println!("\n### Class: ns a call\n\n| sizes | ours | the Rust | the Rust / ours |\n|---|--:|--:|--:|");
-    let spread = |most: u64| -> Vec<u64> { (0..1024u64).map(|i| i.wrapping_mul(0x9E37_79B9_7F4A_7C15) % most).collect() };
-    for (name, most) in [("below 60", 60), ("below 4 KiB", 4096), ("below 16 GiB", 1 << 34)] {
+    for (name, most) in SIZES {
         let sizes = spread(most);
         let agreed = sizes.iter().filter(|n| ours::class(**n) == u64::from(probe::class(**n))).count();
         assert!(agreed + 8 >= sizes.len(), "classes differ beyond the listed differences");
         let mut a = |calls| (0..calls).for_each(|_| sizes.iter().for_each(|n| ignore(black_box(ours::class(black_box(*n))))));
         let mut b = |calls| (0..calls).for_each(|_| sizes.iter().for_each(|n| ignore(black_box(probe::class(black_box(*n))))));
-        let t = best(rounds, 20, &mut [&mut a, &mut b]);
-        println!("| {name} | {:.1} | {:.1} | {:.2} |", t[0] / 1024.0, t[1] / 1024.0, t[1] / t[0]);
+        let t = best(rounds, 2, &mut [&mut a, &mut b]);
+        let each = |t: f64| t / sizes.len() as f64;
+        println!("| {name} | {:.1} | {:.1} | {:.2} |", each(t[0]), each(t[1]), t[1] / t[0]);
         picture.bar("class", name, t[1] / t[0]);
+    }
+}
+
+/// Of an update that asks for no slot.
+const NO_SLAB: u8 = 79;
+
+/// What an offer does first, with the Rust's walk: the class of each Store.
+#[inline(never)]
+fn walked(batch: &Batch) -> [u8; BATCH] {
+    let mut slabs = [NO_SLAB; BATCH];
+    for ((slab, store), length) in slabs.iter_mut().zip(&batch.stores).zip(&batch.lengths) {
+        if *store {
+            *slab = probe::class(*length);
+        }
+    }
+    slabs
+}
+
+/// What 256 Stores take longer than 256 Frees: in an offer of ours that is refused once their classes are found, and in a loop that walks.
+fn classes_in_an_offer(rounds: u32, picture: &mut Picture) {
+    println!("\n### Class of each of 256 updates in an offer: ns an update\n\n| sizes | ours | the Rust's walk, in a loop | the Rust / ours |\n|---|--:|--:|--:|");
+    let (mut one, mut other) = (Ours::new(BATCH, BATCH), Ours::new(BATCH, BATCH));
+    for (name, most) in SIZES {
+        let lengths = spread(most);
+        let mut stores: Vec<Batch> = lengths.chunks(BATCH).map(|lengths| Batch::stores(0..BATCH as u64, |at| lengths[at])).collect();
+        let mut frees: Vec<Batch> = stores.iter().map(|batch| Batch { stores: vec![false; BATCH], ..batch.clone() }).collect();
+        let (stores_again, frees_again) = (stores.clone(), frees.clone());
+        let mut a = |calls| (0..calls).for_each(|_| stores.iter_mut().for_each(|batch| one.offer_refused(black_box(batch))));
+        let mut b = |calls| (0..calls).for_each(|_| frees.iter_mut().for_each(|batch| other.offer_refused(black_box(batch))));
+        let mut c = |calls| (0..calls).for_each(|_| stores_again.iter().for_each(|batch| ignore(black_box(walked(black_box(batch))))));
+        let mut d = |calls| (0..calls).for_each(|_| frees_again.iter().for_each(|batch| ignore(black_box(walked(black_box(batch))))));
+        let t = best(rounds, 1, &mut [&mut a, &mut b, &mut c, &mut d]);
+        let each = |with: f64, without: f64| ((with - without) / lengths.len() as f64).max(0.01);
+        let (ours, rust) = (each(t[0], t[1]), each(t[2], t[3]));
+        println!("| {name} | {ours:.2} | {rust:.2} | {:.2} |", rust / ours);
+        picture.bar("class, in an offer", name, rust / ours);
     }
 }
 
@@ -103,5 +155,6 @@ pub fn run(rounds: u32, picture: &mut Picture) {
     checks("Check", &CHECKED, rounds, picture);
     checks("Check of other lengths", &OTHERS, rounds, picture);
     classes(rounds, picture);
+    classes_in_an_offer(rounds, picture);
     frames(rounds);
 }

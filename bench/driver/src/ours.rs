@@ -53,11 +53,16 @@ pub struct Ours {
     pub moved: (Vec<u64>, Vec<u64>),
 }
 
+macro_rules! status {
+    ($store:ident, $call:ident: $($table:ident),* $(; $($word:expr),*)?) => {
+        unsafe { raw::$call($store.ids, $store.slots, $($store.$table.as_mut_ptr(), $store.$table.len(),)* $($($word),*)?) }
+    };
+}
+
 macro_rules! lend {
-    ($store:ident, $call:ident: $($table:ident),* $(; $($word:expr),*)?) => {{
-        let status = unsafe { raw::$call($store.ids, $store.slots, $($store.$table.as_mut_ptr(), $store.$table.len(),)* $($($word),*)?) };
-        assert_eq!(status, 0, stringify!($call));
-    }};
+    ($store:ident, $call:ident: $($lent:tt)*) => {
+        assert_eq!(status!($store, $call: $($lent)*), 0, stringify!($call))
+    };
 }
 
 impl Ours {
@@ -98,10 +103,19 @@ impl Ours {
         location
     }
 
-    pub fn offer(&mut self, batch: &mut Batch) {
+    fn offered(&mut self, batch: &mut Batch) -> u64 {
         let count = batch.ids.len();
-        lend!(self, wentuhoro_offer: id_marks, locations, slot_marks, owners, batch, tallies;
-            batch.ids.as_ptr(), count, batch.stores.as_ptr(), count, batch.lengths.as_ptr(), count, batch.placed.as_mut_ptr(), count);
+        status!(self, wentuhoro_offer: id_marks, locations, slot_marks, owners, batch, tallies;
+            batch.ids.as_ptr(), count, batch.stores.as_ptr(), count, batch.lengths.as_ptr(), count, batch.placed.as_mut_ptr(), count)
+    }
+
+    pub fn offer(&mut self, batch: &mut Batch) {
+        assert_eq!(self.offered(batch), 0, "wentuhoro_offer");
+    }
+
+    /// Refused with 8, since the first id is 0: after the classes of all updates are found.
+    pub fn offer_refused(&mut self, batch: &mut Batch) {
+        assert_eq!(self.offered(batch), 8, "wentuhoro_offer");
     }
 
     pub fn commit(&mut self) {

@@ -8,7 +8,7 @@ use crate::picture::Picture;
 use crate::timing::{best, Usual};
 
 const CAPACITY: usize = 65_536;
-const BATCH: usize = 256;
+pub const BATCH: usize = 256;
 /// As many objects as leave room for one more batch.
 const FULL: usize = CAPACITY - 1 - BATCH;
 const RATIO: f32 = 0.75;
