@@ -1,32 +1,36 @@
 -- The refusal of a commit in what the code reads: lengths, the opened word, the kept rows. Assumes nothing.
 use mathlib.Core.Bool.{Bool, true, false, _||_}
-use mathlib.Core.Path.{_≡_, sym, ap, _∙_}
-use mathlib.Core.List.{List}
-use Prim.Native.Nat.{ℕ, _+_, _*_, pred}
+use mathlib.Core.Path.{_≡_, refl, sym, ap, _∙_}
+use mathlib.Core.List.{List, [], _∷_}
+use Prim.Native.Nat.{ℕ, zero, suc, _+_, _*_, _≤_, pred}
 use native.Mathlib.Nat.{zero-add}
+use native.Mathlib.Omega.{arith}
 use lib.ListN.{length, getD, set}
 use Rattle.refusal.specs.Outcomes.{granted}
 use Rattle.refusal.specs.declared.Refusal.{Refusal}
 use Rattle.address.specs.Address.{badSlots, slabs}
+use Rattle.carried.specs.Carried.{width, committed}
 use Rattle.model.specs.Store as S
 use Rattle.model.specs.Store.{Row}
 use Rattle.model.specs.Verdict.{ok, refuse, _⨾_}
-use Rattle.model.specs.Tables.{kept, badLocation}
+use Rattle.model.specs.Tables.{mostUpdates, kept, badLocation}
 use Rattle.model.specs.Batches.{badRow}
-use Rattle.model.specs.Memory.{Memory, read}
-use Rattle.model.specs.MemoryAfter.{withKept, commitAll, memoryEffect, memoryAfter}
+use Rattle.model.specs.Columns.{committedColumn}
+use Rattle.model.specs.Memory.{Memory, memoryOf, carrying, read}
+use Rattle.model.specs.MemoryAfter.{withKept, commitRow, commitAll, memoryEffect, memoryAfter}
 use Rattle.model.specs.Step.{refusalOf, refusal, grant, answer}
 use Rattle.model.specs.Tests.{oneOpen}
 use Rattle.tables.specs.Entries.{badIn}
 use Rattle.model.specs.Lending.{everyTable}
 use Rattle.model.specs.Lent.{fits}
-use Rattle.model.proofs.Granted.{granted-fits}
+use Rattle.model.proofs.Granted.{granted-fits, granted-rest}
 use Rattle.model.proofs.Sizes.{fits-range, fits-slot-marks, fits-batch}
+use Rattle.model.proofs.Verdicts.{first-ok}
 use Rattle.tables.proofs.LawsEntries.{badIn-read}
 use Rattle.batch_kept.specs.declared.Rows.{Rows}
 use Rattle.batch_kept.specs.declared.Rows.the-variants as R
 use Rattle.batch_kept.specs.Kept.{countOf, keptFrom, rowsAs, firstBad}
-use Rattle.batch_kept.proofs.Laws.{badRow-read, commitRows-first, rowsAs-count, rowsAs-refused}
+use Rattle.batch_kept.proofs.Laws.{badRow-read, commitRows-first, oneOpen-few, rowsAs-count, rowsAs-refused}
 use Rattle.batch_kept.proofs.Checked.{check-count, check-refused, check-kept, granted-answer, granted-after}
 use Rattle.commit.specs.Commit.{notOwn, rowBad}
 
@@ -44,6 +48,20 @@ notOwn-read slots locations marks owners words id old x y r told p q e h =
     let z : 0 + id ≡ id = zero-add id in
     (λ k. badIn slots marks owners words (sym p k) (getD locations (sym p k) 0))
     ∙ ap (λ o. badIn slots marks owners words id o) (ap (λ a. getD locations a 0) (sym z) ∙ sym q) ∙ sym e ∙ h
+
+-- ---- the rows leave what they carry to others
+abbrev bare : Memory → Memory
+bare m = memoryOf (m .ids) (m .slots) (m .idMarks) (m .locations) (m .slotMarks) (m .owners) (m .batch) (m .tallies)
+
+commitRow-carrying : (m : Memory) (t : List ℕ) (i l o : ℕ) → commitRow (carrying m t) i l o ≡ carrying (commitRow m i l o) t
+commitRow-carrying m t i zero o = refl
+commitRow-carrying m t i (suc l) o = refl
+
+commitAll-carrying : (m : Memory) (t : List ℕ) (rs : List Row) → commitAll (carrying m t) rs ≡ carrying (commitAll m rs) t
+commitAll-carrying m t [] = refl
+commitAll-carrying m t (r ∷ rs) =
+    let o = getD (m .locations) (r .0) 0 in
+    ap (λ (x : Memory). commitAll x rs) (commitRow-carrying m t (r .0) (r .1) o) ∙ commitAll-carrying (commitRow m (r .0) (r .1) o) t rs
 
 -- ---- the refusal
 module _ (m : Memory) where
@@ -79,14 +97,27 @@ module _ (m : Memory) where
     unfolding grant
     commit-done = granted-answer m S.commit e
 
-    commit-after : (n : ℕ) → n ≡ pred (getD (m .batch) 0 0) → memoryAfter m S.commit ≡ withKept (commitAll m (keptFrom (m .batch) n 0)) (set (m .batch) 0 0)
-    unfolding memoryEffect
+    commit-after : (n : ℕ) → n ≡ pred (getD (m .batch) 0 0)
+        → memoryAfter m S.commit
+        ≡ carrying (withKept (commitAll m (keptFrom (m .batch) n 0)) (set (m .batch) 0 0)) (committed width (m .ids) (keptFrom (m .batch) n 0) (m .carried))
+    unfolding memoryEffect committedColumn
     commit-after n q =
         let f = granted-fits m S.commit e in
         granted-after m S.commit e
-        ∙ ap (λ (rs : List Row). withKept (commitAll m rs) (set (m .batch) 0 0)) (check-kept m S.commit bad f (fits-batch everyTable m f) (commit-rows f) e n q)
+        ∙ ap (λ (rs : List Row). carrying (withKept (commitAll m rs) (set (m .batch) 0 0)) (committed width (m .ids) rs (m .carried)))
+        (check-kept m S.commit bad f (fits-batch everyTable m f) (commit-rows f) e n q)
 
-    -- the rows are applied, and then the batch is closed
-    pub commit-leaves : (n : ℕ) (rows : Memory) (closed : List ℕ) → n ≡ pred (getD (m .batch) 0 0) → rows ≡ commitAll m (keptFrom (m .batch) n 0)
-        → closed ≡ set (m .batch) 0 0 → withKept rows closed ≡ memoryAfter m S.commit
-    commit-leaves n rows closed q a b = (λ k. withKept (a k) (b k)) ∙ sym (commit-after n q)
+    -- there are at most 256 rows
+    pub commit-few : (n : ℕ) → n ≡ pred (getD (m .batch) 0 0) → n ≤ mostUpdates
+    unfolding refusalOf
+    commit-few n q = let few = oneOpen-few m (first-ok (oneOpen (read m)) _ (granted-rest (read m) S.commit e)) in omega (arith, few)
+
+    -- the rows are applied, what they carry is settled, and then the batch is closed
+    pub commit-leaves : (n : ℕ) (rows : Memory) (closed column : List ℕ) → n ≡ pred (getD (m .batch) 0 0) → rows ≡ commitAll (bare m) (keptFrom (m .batch) n 0)
+        → closed ≡ set (m .batch) 0 0 → column ≡ committed width (m .ids) (keptFrom (m .batch) n 0) (m .carried)
+        → carrying (withKept rows closed) column ≡ memoryAfter m S.commit
+    commit-leaves n rows closed column q a b d =
+        (λ k. carrying (withKept (a k) (b k)) (d k))
+        ∙ ap (λ (x : Memory). carrying (withKept x (set (m .batch) 0 0)) (committed width (m .ids) (keptFrom (m .batch) n 0) (m .carried)))
+        (sym (commitAll-carrying (bare m) (m .carried) (keptFrom (m .batch) n 0)))
+        ∙ sym (commit-after n q)

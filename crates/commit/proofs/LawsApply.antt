@@ -4,9 +4,11 @@ use mathlib.Core.List.{List, map}
 use Prim.Native.Nat.{ℕ, zero, suc, _+_, _-_, _*_, _≤_, _<_}
 use native.Mathlib.Nat.{zero-add}
 use native.Mathlib.Numerals.{add-one}
+use native.Mathlib.Omega.{arith}
 use lib.ListN.{getD, set, take, drop}
 use borrow.Rule.Slice.PartMut.{putMid}
 use Rattle.list_parts.proofs.Parts.{part-range, putPart-range}
+use Rattle.carried.specs.Carried.{putRow, keptRow, committed}
 use Rattle.id_allocator.specs.Counted.{settle}
 use Rattle.model.specs.Tables.{write}
 use Rattle.model.specs.Memory.{Memory, keptIdsAt, keptLocationsAt, getWord, putWord, waitingWords}
@@ -81,6 +83,7 @@ module _ (m : Memory) (b : List ℕ) (j i l o : ℕ) (ri : i ≡ getD b (keptIds
         owners = owners;
         batch = m .batch;
         tallies = words;
+        carried = m .carried;
       }) Row
   row-free idMarks ready before z el ei er ew es eo =
       let at = el ∙ (λ k. set (m .locations) (zero-add i k) (z k)) in
@@ -94,7 +97,31 @@ module _ (m : Memory) (b : List ℕ) (j i l o : ℕ) (ri : i ≡ getD b (keptIds
         owners = eo k;
         batch = m .batch;
         tallies = both k .words;
+        carried = m .carried;
       }) ∙ sym (ap (λ x. commitRow m i x o) z) ∙ row-read m b j i l o ri rl ro
+
+-- ---- what the rows carry
+module _ (w ids : ℕ) (b : List ℕ) (n i : ℕ) (t : List ℕ) where
+  settle-next : i < n → committed w (ids + i) (keptFrom b (n - i) i) t
+      ≡ committed w (ids + (i + 1)) (keptFrom b (n - (i + 1)) (i + 1))
+      (putRow w t (getD b (keptIdsAt + i) 0) (keptRow w t (ids + i) (getD b (keptLocationsAt + i) 0)))
+  unfolding committed
+  settle-next h =
+      let e : ids + (i + 1) ≡ suc (ids + i) = omega arith in
+      rw (keptFrom-next b n i h, e)
+
+  -- the rows left, after the row at i, leave what the rows from i on leave
+  pub settle-turn : (id location : ℕ) (x whole : List ℕ) → i < n → id ≡ getD b (keptIdsAt + i) 0 → location ≡ getD b (keptLocationsAt + i) 0
+      → x ≡ putRow w t id (keptRow w t (ids + i) location)
+      → committed w (ids + i) (keptFrom b (n - i) i) t ≡ whole → committed w (ids + (i + 1)) (keptFrom b (n - (i + 1)) (i + 1)) x ≡ whole
+  settle-turn id location x whole h p q e all =
+      let f : x ≡ putRow w t (getD b (keptIdsAt + i) 0) (keptRow w t (ids + i) (getD b (keptLocationsAt + i) 0)) =
+      e ∙ (λ k. putRow w t (p k) (keptRow w t (ids + i) (q k))) in
+      ap (committed w (ids + (i + 1)) (keptFrom b (n - (i + 1)) (i + 1))) f ∙ sym (settle-next h) ∙ all
+
+  pub settle-none : n ≤ i → committed w (ids + i) (keptFrom b (n - i) i) t ≡ t
+  unfolding committed
+  settle-none h = rw (keptFrom-none b n i h)
 
 -- ---- all rows
 module _ (m : Memory) (b : List ℕ) (n i : ℕ) where

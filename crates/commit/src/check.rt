@@ -97,6 +97,7 @@ pub(crate) fn check(
     owners: &[u64],
     batch: &[u64],
     tallies: &[u64],
+    carried: &[u8],
 ) -> Rows
     ensures { λ r. ⌜ r
         ≡ rowsAs (refusal (read (lentTo commit (caps .ids) (caps .slots)
@@ -105,7 +106,8 @@ pub(crate) fn check(
         (now («slot_marks» .entry))
         (now (owners .entry))
         (now (batch .entry))
-        (now (tallies .entry)))) commit) (pred (getD (now (batch .entry)) 0 0)) ⌝ }
+        (now (tallies .entry))
+        (now (carried .entry)))) commit) (pred (getD (now (batch .entry)) 0 0)) ⌝ }
 {
     if !tables::all_fit(
         caps,
@@ -115,6 +117,7 @@ pub(crate) fn check(
         owners.len(),
         batch.len(),
         tallies.len(),
+        carried.len(),
     ) {
         return Rows::Refused(Refusal::of(Refusal::WRONG_SHAPE));
     }

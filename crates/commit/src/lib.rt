@@ -1,6 +1,6 @@
-// Commit: the open batch takes effect (document 01, "Ids, slots, pending").
+// Commit: the open batch takes effect (document 01, "Ids, slots, pending"; request 2026-01 for what rows carry).
 //
-//     match commit::commit(caps, &mut id_marks, &mut locations, &mut slot_marks, &mut owners, &mut batch, &mut tallies) {
+//     match commit::commit(caps, &mut id_marks, &mut locations, &mut slot_marks, &mut owners, &mut batch, &mut tallies, &mut carried) {
 //         Finished::Done => ..,
 //         Finished::Refused(refusal) => ..,  // 1; 12, no batch is open; 13 with the update's index; nothing is written
 //     }
@@ -12,12 +12,13 @@ mod check;
 
 ghost use mathlib.Core.Bool.{false};
 ghost use mathlib.Core.Path.{_≡_};
-ghost use Prim.Native.Nat.{_+_, _*_, _<_};
+ghost use Prim.Native.Nat.{_+_, _*_, _<_, _≤_};
 ghost use lib.ListN.{length, getD};
 ghost use Rattle.address.specs.Address.{badSlots, slabs};
+ghost use Rattle.carried.specs.Carried.{width, committed};
 ghost use Rattle.model.specs.Store.{commit, finishedAnswer};
-ghost use Rattle.model.specs.Tables.{write};
-ghost use Rattle.model.specs.Memory.{Memory, getWord, waitingWords, keptIdsAt, keptLocationsAt};
+ghost use Rattle.model.specs.Tables.{write, mostUpdates};
+ghost use Rattle.model.specs.Memory.{Memory, memoryOf, getWord, waitingWords, keptIdsAt, keptLocationsAt};
 ghost use Rattle.model.specs.Lent.{lentTo, answered, leaves};
 ghost use Rattle.model.specs.MemoryAfter.{Slots, readySlab, pendSlot, readyMarks, readyWords, commitRow, commitAll};
 ghost use Rattle.batch_kept.specs.Kept.{keptFrom};
@@ -102,14 +103,14 @@ fn apply_row(
     index: usize,
 )
     requires { ⌜ (badSlots (caps .slots) ≡ false) × (length (now «slot_marks») ≡ slabs * (caps .slots)) ⌝ }
-    ensures { λ _. ⌜ _≡_ {A = Memory} (lentTo commit (caps .ids) (caps .slots)
+    ensures { λ _. ⌜ _≡_ {A = Memory} (memoryOf (caps .ids) (caps .slots)
         (now («id_marks» .exit))
         (now (locations .exit))
         (now («slot_marks» .exit))
         (now (owners .exit))
         (now (batch .entry))
         (now (tallies .exit)))
-        (commitRow (lentTo commit (caps .ids) (caps .slots)
+        (commitRow (memoryOf (caps .ids) (caps .slots)
         (now («id_marks» .entry))
         (now (locations .entry))
         (now («slot_marks» .entry))
@@ -148,14 +149,14 @@ fn apply_rows(
     n: usize,
 )
     requires { ⌜ (badSlots (caps .slots) ≡ false) × (length (now «slot_marks») ≡ slabs * (caps .slots)) ⌝ }
-    ensures { λ _. ⌜ _≡_ {A = Memory} (lentTo commit (caps .ids) (caps .slots)
+    ensures { λ _. ⌜ _≡_ {A = Memory} (memoryOf (caps .ids) (caps .slots)
         (now («id_marks» .exit))
         (now (locations .exit))
         (now («slot_marks» .exit))
         (now (owners .exit))
         (now (batch .entry))
         (now (tallies .exit)))
-        (commitAll (lentTo commit (caps .ids) (caps .slots)
+        (commitAll (memoryOf (caps .ids) (caps .slots)
         (now («id_marks» .entry))
         (now (locations .entry))
         (now («slot_marks» .entry))
@@ -179,6 +180,20 @@ fn apply_rows(
     }
 }
 
+// What each of the n kept updates carries goes to its id; a freed id is left with zeros. The rows of the kept updates stand after those of the ids.
+fn settle_rows(ids: usize, batch: &[u64], carried: &mut [u8], n: usize)
+    requires { ⌜ (ids ≤ 65536) × (n ≤ mostUpdates) ⌝ }
+    ensures { λ _. ⌜ now (carried .exit) ≡ committed width ids (keptFrom (now (batch .entry)) n 0) (now (carried .entry)) ⌝ }
+{
+    let mut i: usize = 0;
+    while i < n {
+        let id = tables::get(batch, KEPT_IDS, i);
+        let location = tables::get(batch, KEPT_LOCATIONS, i);
+        carried::settle(carried, ids + i, id as usize, location);
+        i += 1;
+    }
+}
+
 pub fn commit(
     caps: Capacities,
     id_marks: &mut [u8],
@@ -187,6 +202,7 @@ pub fn commit(
     owners: &mut [u64],
     batch: &mut [u64],
     tallies: &mut [u64],
+    carried: &mut [u8],
 ) -> Finished
     ensures answers { λ r. ⌜ finishedAnswer r
         ≡ answered commit (caps .ids) (caps .slots)
@@ -195,21 +211,24 @@ pub fn commit(
         (now («slot_marks» .entry))
         (now (owners .entry))
         (now (batch .entry))
-        (now (tallies .entry)) ⌝ }
+        (now (tallies .entry))
+        (now (carried .entry)) ⌝ }
     ensures leaves { λ r. ⌜ _≡_ {A = Memory} (lentTo commit (caps .ids) (caps .slots)
         (now («id_marks» .exit))
         (now (locations .exit))
         (now («slot_marks» .exit))
         (now (owners .exit))
         (now (batch .exit))
-        (now (tallies .exit)))
+        (now (tallies .exit))
+        (now (carried .exit)))
         (leaves commit (caps .ids) (caps .slots)
         (now («id_marks» .entry))
         (now (locations .entry))
         (now («slot_marks» .entry))
         (now (owners .entry))
         (now (batch .entry))
-        (now (tallies .entry))) ⌝ }
+        (now (tallies .entry))
+        (now (carried .entry))) ⌝ }
 {
     match check(
         caps,
@@ -219,6 +238,7 @@ pub fn commit(
         owners,
         batch,
         tallies,
+        carried,
     ) {
         Rows::Refused(refusal) => Finished::Refused(refusal),
         Rows::Count(n) => {
@@ -232,6 +252,7 @@ pub fn commit(
                 tallies,
                 n,
             );
+            settle_rows(caps.ids, batch, carried, n);
             tables::put(batch, 0, 0, 0);
             Finished::Done
         }

@@ -2,7 +2,7 @@
 -- that, and there a refused row comes after rows whose ids are in range and differ: each is one more mark in a table of as many marks as
 -- there are ids. Assumes nothing.
 use mathlib.Core.Path.{_≡_, refl, _∙_}
-use mathlib.Core.Bool.{Bool, true, false, not}
+use mathlib.Core.Bool.{Bool, true, false, not, cond}
 use mathlib.Core.List.{List, [], _∷_}
 use Prim.Native.Nat.{ℕ, zero, suc, _+_, _*_, _<_, _≤_, pred}
 use native.Mathlib.Omega.{arith}
@@ -16,14 +16,16 @@ use Rattle.list_parts.proofs.Lists.{elem-not}
 use Rattle.address.specs.Address.{slabs}
 use Rattle.marks.specs.Marks.{isTaken, countIf}
 use Rattle.marks.proofs.LawsCount.{countIf-set, countIf-le}
-use Rattle.model.specs.Store.{Store, Update, Row, Question, lookup, counters, defrag, Call, newId, release, offer, commit, abandon, fresh, rebuild, ask, truncation, report}
+use Rattle.model.specs.Store.{Store, Update, Row, Question, lookup, counters, defrag, snapshotLength, snapshot, Call, newId, release, offer, commit, abandon, fresh, rebuild, ask, truncation, report}
 use Rattle.model.specs.Verdict.{Verdict, ok, refuse, _⨾_, test}
-use Rattle.model.specs.Tables.{mostUpdates, mostOpened, inIds, kept, pairs}
+use Rattle.model.specs.Tables.{mostUpdates, mostOpened, inIds, badLocation, kept, pairs}
 use Rattle.model.specs.Batches.{updatesOf, updatesIn, updates, room, commitRows, abandonRows}
 use Rattle.model.specs.Rebuild.{rowsIn, rows}
 use Rattle.model.specs.Step.{slabRefusal, refusalOf, refusal, answer}
+use Rattle.model.specs.Snapshots.{isStored, thoseFrom, storedIds, snapshotRows}
 use Rattle.model.specs.Questions.{askRefusal}
 use Rattle.model.proofs.Granted.{shape-ok}
+use Rattle.model.proofs.Snapshots.{length-those}
 use Rattle.model.proofs.Verdicts.{test-ok, then-ok}
 use Rattle.model.proofs.Lists.{zeros}
 use Rattle.exports_status.specs.Status.{statusOf}
@@ -138,12 +140,22 @@ slab-small s k t =
     small-first _ _ 11 _ (omega arith) (omega arith) (λ _.
     small-first _ _ 3 _ (omega arith) (omega arith) (λ _. small-test _ _ 14 0 (omega arith) (omega arith)))
 
+snapshot-small : (bad : ℕ → Bool) (i b : ℕ) (xs : List ℕ) → i + length xs ≤ b → 0 < b → Small b (snapshotRows bad i xs)
+unfolding snapshotRows
+snapshot-small bad i b [] h z = small _ _ (omega arith) z
+snapshot-small bad i b (x ∷ xs) h z = small-then _ _ _ (small-test _ _ 13 i (omega arith) (omega arith)) (λ _. snapshot-small bad (suc i) b xs (omega arith) z)
+
 -- the questions
-ask-small : (s : Store) (q : Question) → Small 65537 (askRefusal s q)
+ask-small : (s : Store) (q : Question) → s .ids ≤ 65536 → Small 65537 (askRefusal s q)
 unfolding askRefusal
-ask-small s (lookup i) = small-first _ _ 8 _ (omega arith) (omega arith) (λ _. small-test _ _ 13 0 (omega arith) (omega arith))
-ask-small s counters = small _ _ (omega arith) (omega arith)
-ask-small s (defrag r is ls) =
+ask-small s (lookup i row) ids =
+    small-first _ _ 1 _ (omega arith) (omega arith) (λ _. small-first _ _ 8 _ (omega arith) (omega arith) (λ _. small-test _ _ 13 0 (omega arith) (omega arith)))
+ask-small s counters ids = small _ _ (omega arith) (omega arith)
+ask-small s snapshotLength ids = small-test _ _ 11 0 (omega arith) (omega arith)
+ask-small s (snapshot file) ids =
+    small-first _ _ 1 _ (omega arith) (omega arith) (λ _. small-first _ _ 11 _ (omega arith) (omega arith) (λ _.
+    snapshot-small (badLocation s) 0 65537 (storedIds s) (omega (arith, length-those (isStored s) (s .ids) 0)) (omega arith)))
+ask-small s (defrag r is ls) ids =
     small-first _ _ 1 _ (omega arith) (omega arith) (λ _. small-first _ _ 11 _ (omega arith) (omega arith) (λ _. small-test _ _ 14 0 (omega arith) (omega arith)))
 
 -- the tests of a call whose tables fit
@@ -168,7 +180,7 @@ rest-small s (rebuild rs) ids =
     small-first _ _ 1 _ (omega arith) (omega arith) (λ _.
     wider (suc (s .ids)) 65537 _ (omega arith)
     (rows-small s (replicate (s .ids) 0) [] [] 0 (rowsIn rs) (length-replicate {A = ℕ} (s .ids) 0) (none-taken (s .ids)) (λ x _. zeros (s .ids) x)))
-rest-small s (ask q) ids = ask-small s q
+rest-small s (ask q) ids = ask-small s q ids
 rest-small s (truncation k t) ids = slab-small s k t
 rest-small s (report k t) ids = small-then _ _ _ (slab-small s k t) (λ _. small-test _ _ 17 0 (omega arith) (omega arith))
 

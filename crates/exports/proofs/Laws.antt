@@ -10,12 +10,18 @@ use Rattle.refusal.specs.declared.Finished.{Finished}
 use Rattle.refusal.specs.declared.Finished.the-variants as F
 use Rattle.model.specs.Store.{Offer, offer, Answer}
 use Rattle.model.specs.Batches.{takenBy, updatesIn}
-use Rattle.model.specs.Memory.{Memory, read}
+use Rattle.model.specs.Columns.{offeredColumn}
+use Rattle.model.specs.Memory.{Memory, carrying, read}
 use Rattle.model.specs.MemoryAfter.{withKept, withSlots, memoryOffer, memoryEffect, memoryAfter}
 use Rattle.model.specs.Outcomes.{outcomeOf}
 use Rattle.model.specs.Step.{refusal, unless}
 use Rattle.model.specs.Verdict.{Verdict, ok, refuse}
+use Rattle.lookup.specs.declared.Looked.{Looked}
+use Rattle.lookup.specs.declared.Looked.the-variants as L
+use Rattle.lookup.specs.Lookup.{lookedAnswer}
 use Rattle.offer.specs.Outcome.{Left, offeredAnswer}
+use Rattle.snapshot_writer.specs.Outcome as Written
+use Rattle.snapshot_writer.specs.Outcome.{writtenAnswer}
 use Rattle.exports_status.specs.Status.{statusOf, valuesIn, exported}
 use Rattle.exports.specs.Answers.{whereFits}
 
@@ -59,6 +65,16 @@ four-words (x ∷ y ∷ z ∷ []) t u v w h = absurd (omega arith)
 four-words (a ∷ b ∷ c ∷ d ∷ []) t u v w h = refl
 four-words (a ∷ b ∷ c ∷ d ∷ e ∷ l) t u v w h = absurd (omega arith)
 
+pub six-words : (l : List ℕ) (r s t u v w : ℕ) → length l ≡ 6 → r ∷ s ∷ t ∷ u ∷ v ∷ w ∷ [] ≡ set (set (set (set (set (set l 0 r) 1 s) 2 t) 3 u) 4 v) 5 w
+six-words [] r s t u v w h = absurd (omega arith)
+six-words (a ∷ []) r s t u v w h = absurd (omega arith)
+six-words (a ∷ b ∷ []) r s t u v w h = absurd (omega arith)
+six-words (a ∷ b ∷ c ∷ []) r s t u v w h = absurd (omega arith)
+six-words (a ∷ b ∷ c ∷ d ∷ []) r s t u v w h = absurd (omega arith)
+six-words (a ∷ b ∷ c ∷ d ∷ e ∷ []) r s t u v w h = absurd (omega arith)
+six-words (a ∷ b ∷ c ∷ d ∷ e ∷ f ∷ []) r s t u v w h = refl
+six-words (a ∷ b ∷ c ∷ d ∷ e ∷ f ∷ g ∷ l) r s t u v w h = absurd (omega arith)
+
 -- ---- a store's answers
 
 -- what an enum says is the outcome: so are its status and its values, once the enum is told
@@ -83,6 +99,17 @@ module _ {E : Type 0} (says : E → Answer) (e e' : E) (a : Answer) (p : says e 
       → record { status = s; lent = l } ≡ exported n (outcomeOf a) lent
   told-exported = said-exported (λ (x : E). outcomeOf (says x)) e e' (outcomeOf a) (ap outcomeOf p) q
 
+-- a lookup's status and value do not depend on the row, which its other promise tells
+pub looked-exported :
+    (r r' : Looked) (row left : List ℕ) (a : Answer) → row ≡ left → lookedAnswer r row ≡ a → r ≡ r' → (lent : List ℕ) (s : ℕ) (l : List ℕ) → length lent ≡ 1
+    → statusOf (outcomeOf (lookedAnswer r' [])) ≡ s → valuesIn (outcomeOf (lookedAnswer r' [])) lent ≡ l → record { status = s; lent = l } ≡ exported 1 (outcomeOf a) lent
+looked-exported r r' row left a k p q lent s l h u v =
+    told-exported (λ (x : Looked). lookedAnswer x row) r r' a p q 1 lent s l h (ap statusOf (any r') ∙ u) (ap (λ (x : Values). valuesIn x lent) (any r') ∙ v)
+  where
+    any : (x : Looked) → outcomeOf (lookedAnswer x row) ≡ outcomeOf (lookedAnswer x [])
+    any (L.Location location) = refl
+    any (L.Refused r) = refl
+
 module _ {A : Type 0} (n : ℕ) (lent : List ℕ) (after before : A) where
   pub whereFits-fits : length lent ≡ n → after ≡ whereFits n lent after before
   unfolding whereFits
@@ -94,25 +121,39 @@ module _ {A : Type 0} (n : ℕ) (lent : List ℕ) (after before : A) where
 
 -- an offer's status does not depend on the locations
 pub offered-status :
-    (o o' : Finished) (sm b t ls : List ℕ) (w : Left) → record { answer = offeredAnswer o ls; slotMarks = sm; batch = b; tallies = t; placed = ls } ≡ w → o ≡ o'
+    (o o' : Finished) (sm b t c ls : List ℕ) (w : Left)
+    → record { answer = offeredAnswer o ls; slotMarks = sm; batch = b; tallies = t; carried = c; placed = ls } ≡ w → o ≡ o'
     → statusOf (outcomeOf (offeredAnswer o' [])) ≡ statusOf (outcomeOf (w .answer))
-offered-status o o' sm b t ls w e q = any o' ∙ told-status (λ (x : Finished). offeredAnswer x ls) o o' (w .answer) (ap (λ (x : Left). x .answer) e) q
+offered-status o o' sm b t c ls w e q = any o' ∙ told-status (λ (x : Finished). offeredAnswer x ls) o o' (w .answer) (ap (λ (x : Left). x .answer) e) q
   where
     any : (x : Finished) → statusOf (outcomeOf (offeredAnswer x [])) ≡ statusOf (outcomeOf (offeredAnswer x ls))
     any F.Done = refl
     any (F.Refused r) = refl
 
--- an offer changes three tables
+-- nor does that of a snapshot on the file
+pub written-status :
+    (o o' : Finished) (file : List ℕ) (w : Written.Left) → record { answer = writtenAnswer o file; file = file } ≡ w → o ≡ o'
+    → statusOf (outcomeOf (writtenAnswer o' [])) ≡ statusOf (outcomeOf (w .answer))
+written-status o o' file w e q = any o' ∙ told-status (λ (x : Finished). writtenAnswer x file) o o' (w .answer) (ap (λ (x : Written.Left). x .answer) e) q
+  where
+    any : (x : Finished) → statusOf (outcomeOf (writtenAnswer x [])) ≡ statusOf (outcomeOf (writtenAnswer x file))
+    any F.Done = refl
+    any (F.Refused r) = refl
+
+-- an offer changes four tables
 pub offer-memory :
-    (m : Memory) (o : Offer) (sm b t : List ℕ) → sm ≡ memoryAfter m (offer o) .slotMarks
-    → b ≡ memoryAfter m (offer o) .batch → t ≡ memoryAfter m (offer o) .tallies
-    → withKept (withSlots m (record { marks = sm; words = t })) b ≡ memoryAfter m (offer o)
+    (m : Memory) (o : Offer) (sm b t c : List ℕ) → sm ≡ memoryAfter m (offer o) .slotMarks
+    → b ≡ memoryAfter m (offer o) .batch → t ≡ memoryAfter m (offer o) .tallies → c ≡ memoryAfter m (offer o) .carried
+    → carrying (withKept (withSlots m (record { marks = sm; words = t })) b) c ≡ memoryAfter m (offer o)
 unfolding memoryAfter memoryEffect
-offer-memory m o sm b t p q r = (λ k. withKept (withSlots m (record { marks = p k; words = r k })) (q k)) ∙ go (refusal (read m) (offer o))
+offer-memory m o sm b t c p q r x =
+    (λ k. carrying (withKept (withSlots m (record { marks = p k; words = r k })) (q k)) (x k)) ∙ go (refusal (read m) (offer o))
   where
     new : Memory
-    new = memoryOffer m (o .ids) (takenBy (read m) (updatesIn o))
+    new = carrying (memoryOffer m (o .ids) (takenBy (read m) (updatesIn o))) (offeredColumn (m .ids) o (m .carried))
 
-    go : (v : Verdict) → withKept (withSlots m (record { marks = unless v m new .slotMarks; words = unless v m new .tallies })) (unless v m new .batch) ≡ unless v m new
+    go : (v : Verdict)
+        → carrying (withKept (withSlots m (record { marks = unless v m new .slotMarks; words = unless v m new .tallies })) (unless v m new .batch))
+        (unless v m new .carried) ≡ unless v m new
     go ok = refl
     go (refuse n i) = refl

@@ -9,7 +9,7 @@ use exports_status::status;
 use refusal::Finished;
 use tables::Capacities;
 
-// Takes a slot for each Store of a batch. `placed` has as many rows as there are updates: their locations, 0 for a Free.
+// Takes a slot for each Store of a batch, and keeps what each row is to carry, one row after the other. `placed` has as many rows as there are updates: their locations, 0 for a Free.
 #[no_mangle]
 pub extern "C" fn wentuhoro_offer(
     ids: usize,
@@ -20,15 +20,18 @@ pub extern "C" fn wentuhoro_offer(
     owners: &[u64],
     batch: &mut [u64],
     tallies: &mut [u64],
+    carried: &mut [u8],
     update_ids: &[u64],
     stores: &[bool],
     lengths: &[u64],
+    update_carried: &[u8],
     placed: &mut [u64],
 ) -> u64
     ensures { λ r. ⌜ r ≡ statusOf (outcomeOf (answered (offer (record {
       ids = now («update_ids» .entry);
       stores = now (stores .entry);
       lengths = now (lengths .entry);
+      carried = now («update_carried» .entry);
       placed = now (placed .entry);
     })) ids slots
         (now («id_marks» .entry))
@@ -36,11 +39,13 @@ pub extern "C" fn wentuhoro_offer(
         (now («slot_marks» .entry))
         (now (owners .entry))
         (now (batch .entry))
-        (now (tallies .entry)))) ⌝ }
+        (now (tallies .entry))
+        (now (carried .entry)))) ⌝ }
     ensures { λ _. ⌜ _≡_ {A = Memory} (lentTo (offer (record {
       ids = now («update_ids» .entry);
       stores = now (stores .entry);
       lengths = now (lengths .entry);
+      carried = now («update_carried» .entry);
       placed = now (placed .entry);
     })) ids slots
         (now («id_marks» .entry))
@@ -48,11 +53,13 @@ pub extern "C" fn wentuhoro_offer(
         (now («slot_marks» .exit))
         (now (owners .entry))
         (now (batch .exit))
-        (now (tallies .exit)))
+        (now (tallies .exit))
+        (now (carried .exit)))
         (leaves (offer (record {
           ids = now («update_ids» .entry);
           stores = now (stores .entry);
           lengths = now (lengths .entry);
+          carried = now («update_carried» .entry);
           placed = now (placed .entry);
         })) ids slots
         (now («id_marks» .entry))
@@ -60,11 +67,13 @@ pub extern "C" fn wentuhoro_offer(
         (now («slot_marks» .entry))
         (now (owners .entry))
         (now (batch .entry))
-        (now (tallies .entry))) ⌝ }
+        (now (tallies .entry))
+        (now (carried .entry))) ⌝ }
     ensures { λ _. ⌜ now (placed .exit) ≡ listIn 0 (answered (offer (record {
       ids = now («update_ids» .entry);
       stores = now (stores .entry);
       lengths = now (lengths .entry);
+      carried = now («update_carried» .entry);
       placed = now (placed .entry);
     })) ids slots
         (now («id_marks» .entry))
@@ -72,7 +81,8 @@ pub extern "C" fn wentuhoro_offer(
         (now («slot_marks» .entry))
         (now (owners .entry))
         (now (batch .entry))
-        (now (tallies .entry)))
+        (now (tallies .entry))
+        (now (carried .entry)))
         (now (placed .entry)) ⌝ }
 {
     let caps = Capacities { ids, slots };
@@ -84,9 +94,11 @@ pub extern "C" fn wentuhoro_offer(
         owners,
         batch,
         tallies,
+        carried,
         update_ids,
         stores,
         lengths,
+        update_carried,
         placed,
     ) {
         Finished::Done => 0,
@@ -105,6 +117,7 @@ pub extern "C" fn wentuhoro_commit(
     owners: &mut [u64],
     batch: &mut [u64],
     tallies: &mut [u64],
+    carried: &mut [u8],
 ) -> u64
     ensures { λ r. ⌜ r ≡ statusOf (outcomeOf (answered commit ids slots
         (now («id_marks» .entry))
@@ -112,21 +125,24 @@ pub extern "C" fn wentuhoro_commit(
         (now («slot_marks» .entry))
         (now (owners .entry))
         (now (batch .entry))
-        (now (tallies .entry)))) ⌝ }
+        (now (tallies .entry))
+        (now (carried .entry)))) ⌝ }
     ensures { λ _. ⌜ _≡_ {A = Memory} (lentTo commit ids slots
         (now («id_marks» .exit))
         (now (locations .exit))
         (now («slot_marks» .exit))
         (now (owners .exit))
         (now (batch .exit))
-        (now (tallies .exit)))
+        (now (tallies .exit))
+        (now (carried .exit)))
         (leaves commit ids slots
         (now («id_marks» .entry))
         (now (locations .entry))
         (now («slot_marks» .entry))
         (now (owners .entry))
         (now (batch .entry))
-        (now (tallies .entry))) ⌝ }
+        (now (tallies .entry))
+        (now (carried .entry))) ⌝ }
 {
     let caps = Capacities { ids, slots };
     match commit::commit(
@@ -137,6 +153,7 @@ pub extern "C" fn wentuhoro_commit(
         owners,
         batch,
         tallies,
+        carried,
     ) {
         Finished::Done => 0,
         Finished::Refused(r) => status(r),

@@ -6,6 +6,7 @@ mod batches;
 mod leaves;
 mod moves_and_cuts;
 mod objects;
+mod snapshots;
 mod stores;
 mod values;
 
@@ -31,5 +32,9 @@ pub use objects::wentuhoro_counters;
 pub use objects::wentuhoro_lookup;
 pub use objects::wentuhoro_new_id;
 pub use objects::wentuhoro_stats;
+pub use snapshots::wentuhoro_snapshot_length;
+pub use snapshots::wentuhoro_snapshot_read;
+pub use snapshots::wentuhoro_snapshot_step;
+pub use snapshots::wentuhoro_snapshot_write;
 pub use stores::wentuhoro_fresh;
 pub use stores::wentuhoro_rebuild;

@@ -58,7 +58,7 @@ pub extern "C" fn wentuhoro_new_id(
     }
 }
 
-// The location of an object. One value.
+// The location of an object, one value, and what its row carries.
 #[no_mangle]
 pub extern "C" fn wentuhoro_lookup(
     ids: usize,
@@ -68,17 +68,31 @@ pub extern "C" fn wentuhoro_lookup(
     slot_marks: &[u8],
     owners: &[u64],
     tallies: &[u64],
+    carried: &[u8],
     id: u64,
     location: &mut [u64],
+    row: &mut [u8],
 ) -> u64
     ensures { λ r. ⌜ _≡_ {A = Exported} (record { status = r; lent = now (location .exit) })
-        (exported 1 (outcomeOf (answered (ask (lookup id)) ids slots
+        (exported 1 (outcomeOf (answered (ask (lookup id (now (row .entry)))) ids slots
         (now («id_marks» .entry))
         (now (locations .entry))
         (now («slot_marks» .entry))
         (now (owners .entry))
-        (now (tallies .entry))))
+        (now (tallies .entry))
+        (now (carried .entry))))
         (now (location .entry))) ⌝ }
+    ensures { λ _. ⌜ now (row .exit)
+        ≡ whereFits 1 (now (location .entry))
+        (listIn 0 (answered (ask (lookup id (now (row .entry)))) ids slots
+        (now («id_marks» .entry))
+        (now (locations .entry))
+        (now («slot_marks» .entry))
+        (now (owners .entry))
+        (now (tallies .entry))
+        (now (carried .entry)))
+        (now (row .entry)))
+        (now (row .entry)) ⌝ }
 {
     if location.len() != 1 {
         return WRONG_LENGTH;
@@ -91,7 +105,9 @@ pub extern "C" fn wentuhoro_lookup(
         slot_marks,
         owners,
         tallies,
+        carried,
         id,
+        row,
     ) {
         Looked::Location(l) => {
             location[0] = l;

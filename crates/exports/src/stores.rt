@@ -1,4 +1,4 @@
-// A store made new: fresh, or rebuilt from its live ids and locations.
+// A store made new: fresh, or rebuilt from its live rows.
 ghost use mathlib.Core.Path.{_≡_};
 ghost use Rattle.model.specs.Store.{fresh, rebuild};
 ghost use Rattle.model.specs.Memory.{Memory};
@@ -20,6 +20,7 @@ pub extern "C" fn wentuhoro_fresh(
     owners: &mut [u64],
     batch: &mut [u64],
     tallies: &mut [u64],
+    carried: &mut [u8],
 ) -> u64
     ensures { λ r. ⌜ r ≡ statusOf (outcomeOf (answered fresh ids slots
         (now («id_marks» .entry))
@@ -27,21 +28,24 @@ pub extern "C" fn wentuhoro_fresh(
         (now («slot_marks» .entry))
         (now (owners .entry))
         (now (batch .entry))
-        (now (tallies .entry)))) ⌝ }
+        (now (tallies .entry))
+        (now (carried .entry)))) ⌝ }
     ensures { λ _. ⌜ _≡_ {A = Memory} (lentTo fresh ids slots
         (now («id_marks» .exit))
         (now (locations .exit))
         (now («slot_marks» .exit))
         (now (owners .exit))
         (now (batch .exit))
-        (now (tallies .exit)))
+        (now (tallies .exit))
+        (now (carried .exit)))
         (leaves fresh ids slots
         (now («id_marks» .entry))
         (now (locations .entry))
         (now («slot_marks» .entry))
         (now (owners .entry))
         (now (batch .entry))
-        (now (tallies .entry))) ⌝ }
+        (now (tallies .entry))
+        (now (carried .entry))) ⌝ }
 {
     let caps = Capacities { ids, slots };
     match rebuild::fresh(
@@ -52,6 +56,7 @@ pub extern "C" fn wentuhoro_fresh(
         owners,
         batch,
         tallies,
+        carried,
     ) {
         Finished::Done => 0,
         Finished::Refused(r) => status(r),
@@ -69,35 +74,40 @@ pub extern "C" fn wentuhoro_rebuild(
     owners: &mut [u64],
     batch: &mut [u64],
     tallies: &mut [u64],
+    carried: &mut [u8],
     row_ids: &[u64],
     row_locations: &[u64],
+    row_carried: &[u8],
 ) -> u64
     ensures { λ r. ⌜ r
-        ≡ statusOf (outcomeOf (answered (rebuild (record { ids = now («row_ids» .entry); locations = now («row_locations» .entry) }))
+        ≡ statusOf (outcomeOf (answered (rebuild (record { ids = now («row_ids» .entry); locations = now («row_locations» .entry); carried = now («row_carried» .entry) }))
         ids slots
         (now («id_marks» .entry))
         (now (locations .entry))
         (now («slot_marks» .entry))
         (now (owners .entry))
         (now (batch .entry))
-        (now (tallies .entry)))) ⌝ }
+        (now (tallies .entry))
+        (now (carried .entry)))) ⌝ }
     ensures { λ _. ⌜ _≡_ {A = Memory}
-        (lentTo (rebuild (record { ids = now («row_ids» .entry); locations = now («row_locations» .entry) }))
+        (lentTo (rebuild (record { ids = now («row_ids» .entry); locations = now («row_locations» .entry); carried = now («row_carried» .entry) }))
         ids slots
         (now («id_marks» .exit))
         (now (locations .exit))
         (now («slot_marks» .exit))
         (now (owners .exit))
         (now (batch .exit))
-        (now (tallies .exit)))
-        (leaves (rebuild (record { ids = now («row_ids» .entry); locations = now («row_locations» .entry) }))
+        (now (tallies .exit))
+        (now (carried .exit)))
+        (leaves (rebuild (record { ids = now («row_ids» .entry); locations = now («row_locations» .entry); carried = now («row_carried» .entry) }))
         ids slots
         (now («id_marks» .entry))
         (now (locations .entry))
         (now («slot_marks» .entry))
         (now (owners .entry))
         (now (batch .entry))
-        (now (tallies .entry))) ⌝ }
+        (now (tallies .entry))
+        (now (carried .entry))) ⌝ }
 {
     let caps = Capacities { ids, slots };
     match rebuild::rebuild(
@@ -108,8 +118,10 @@ pub extern "C" fn wentuhoro_rebuild(
         owners,
         batch,
         tallies,
+        carried,
         row_ids,
         row_locations,
+        row_carried,
     ) {
         Finished::Done => 0,
         Finished::Refused(r) => status(r),

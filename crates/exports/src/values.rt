@@ -29,3 +29,23 @@ pub(crate) fn four(values: &mut [u64], first: u64, second: u64, third: u64, four
     values[2] = third;
     values[3] = fourth;
 }
+
+pub(crate) fn six(
+    values: &mut [u64],
+    first: u64,
+    second: u64,
+    third: u64,
+    fourth: u64,
+    fifth: u64,
+    sixth: u64,
+)
+    requires { ⌜ length (now values) ≡ 6 ⌝ }
+    ensures { λ _. ⌜ now (values .exit) ≡ first ∷ second ∷ third ∷ fourth ∷ fifth ∷ sixth ∷ [] ⌝ }
+{
+    values[0] = first;
+    values[1] = second;
+    values[2] = third;
+    values[3] = fourth;
+    values[4] = fifth;
+    values[5] = sixth;
+}

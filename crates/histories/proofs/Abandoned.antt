@@ -15,9 +15,10 @@ use Rattle.address.specs.Address.{isLocation}
 use Rattle.id_allocator.specs.Written.{opened}
 use Rattle.fragmentation.proofs.LawsCut.{between}
 use Rattle.model.specs.Batches.{abandonRows, badRow, afterAbandon, afterOffer, takenBy, updatesIn}
+use Rattle.model.specs.Columns.{offeredColumn}
 use Rattle.model.specs.Lending.{everyTable}
 use Rattle.model.specs.Step.{refusalOf, refusal, after, effect, next, unless, state}
-use Rattle.model.specs.Store.{Store, Row, abandon, Update, offer, Call, newId, release, commit, fresh, rebuild, ask, truncation, report}
+use Rattle.model.specs.Store.{Store, withCarried, Row, abandon, Update, Offer, offer, Call, newId, release, commit, fresh, rebuild, ask, truncation, report}
 use Rattle.model.specs.Tables.{mostOpened, slotPlace, writeAll, isOpen, kept, locationsOf, pairs}
 use Rattle.list_parts.specs.Lists.{elem}
 use Rattle.model.specs.Tests.{noneOpen}
@@ -36,7 +37,8 @@ use Rattle.histories.specs.Invariant.{KeptRows, Inv}
 use Rattle.histories.specs.Statements.{StaysOpen, grantedOf, keepIf, AbandonAgrees, answers}
 use Rattle.histories.proofs.KeptBatches.{kept-offer, locs-pairs, place-free}
 use Rattle.histories.proofs.Reached.{reached, keep-next}
-use Rattle.histories.proofs.Same.{Same}
+use Rattle.histories.proofs.Same.{Same, same-carried}
+use Rattle.histories.proofs.SameRows.{Alike, closed-alike, offered-other, located-lt}
 use Rattle.histories.proofs.SameAnswers.{answers-same}
 
 -- one of the locations has its slot at p, or none has
@@ -117,6 +119,12 @@ abandoned-same s us v o = record {
   batch = ap (λ n. pairs (pred n) (s .batch .keptIds) (s .batch .keptLocations)) (sym o);
 }
 
+-- its rows were kept after those of the ids
+pub abandoned-alike : (s : Store) (o : Offer) → Inv s → s .batch .opened ≡ 0
+    → Alike (afterAbandon (withCarried (afterOffer s (updatesIn o)) (offeredColumn (s .ids) o (s .carried)))) s
+abandoned-alike s o v c = closed-alike (same-carried _ (s .carried) (abandoned-same s (updatesIn o) v c))
+    (λ i n. offered-other (s .ids) o (s .carried) i (located-lt s v i n)) refl
+
 -- ---- the calls while a batch is open
 
 -- a call whose effect is nothing
@@ -170,9 +178,9 @@ abandon-agrees n m h o between later c e t =
     let s′ = next s (offer o) in
     let v′ : Inv s′ = keep-next s (offer o) v in
     let b = between-same s′ between t in
-    let q : next s′ abandon ≡ afterAbandon (afterOffer s (updatesIn o)) =
+    let q : next s′ abandon ≡ afterAbandon (withCarried (afterOffer s (updatesIn o)) (offeredColumn (s .ids) o (s .carried))) =
     next-granted s′ abandon (abandon-granted s′ v′ (open-before s′ between t)) ∙ ap afterAbandon (next-granted s (offer o) e) in
-    let same : Same (next s′ abandon) s = subst (λ x. Same x s) (sym q) (abandoned-same s (updatesIn o) v (offer-granted s o e .shut)) in
+    let same : Alike (next s′ abandon) s = subst (λ x. Alike x s) (sym q) (abandoned-alike s o v (offer-granted s o e .shut)) in
     ap (λ x. answers (next x abandon) later) (b .0)
     ∙ answers-same (next s′ abandon) s same (keep-next s′ abandon v′) v later
     ∙ ap (λ x. answers x later) (sym (b .1 s))

@@ -14,7 +14,9 @@ use Rattle.sizes.specs.Sizes.{slabFor, firstFit, slabSizes, fieldWidth}
 use Rattle.address.specs.Address.{badSlots}
 use Rattle.marks.specs.Marks.{isHeld}
 use Rattle.model.specs.Batches.{room}
-use Rattle.model.specs.Cases.{stores, frees}
+use Rattle.carried.specs.Carried.{putRow, putRows, upFrom, keptRow, committed}
+use Rattle.model.specs.Columns.{offeredColumn, committedColumn}
+use Rattle.model.specs.Cases.{stores, frees, collection}
 use Rattle.model.specs.Defrag.{movesFrom}
 use Rattle.model.specs.Ids.{bumpPending}
 use Rattle.model.specs.Lending.{lentFit, sized}
@@ -24,10 +26,10 @@ use Rattle.model.specs.Store.{lookup, Call, newId, commit, release, ask}
 use Rattle.model.specs.Tables.{badIds, heldId, locationOf, inIds}
 use Rattle.model.specs.Verdict.{_⨾_, test}
 use Rattle.histories.specs.Statements.{AtRest, RebuildMet, AbandonMet}
-use Rattle.histories.proofs.LiveRows.{liveRows, live-rows}
+use Rattle.histories.proofs.LiveRows.{liveRows, liveBytes, live-rows}
 use Rattle.histories.proofs.Reached.{reached}
 
-abbrev calls : List Call
+abbrev pub calls : List Call
 calls =
     newId ∷ newId ∷ newId ∷ stores (1 ∷ 2 ∷ 3 ∷ []) ∷ commit ∷ frees (2 ∷ []) ∷ commit ∷ release ∷ []
 
@@ -57,8 +59,8 @@ is-stored (m ∷ im) (l ∷ lo) e zero h =
     go false h f = clash (sym h)
 is-stored (m ∷ im) (l ∷ lo) e (suc i) h = is-stored im lo (and-true (not (isHeld m) || not (eqb l 0)) (allStored im lo) e .1) i h
 
-at-rest : AtRest (state 9 4 calls)
-unfolding _⨾_ test answer next refusal refusalOf askRefusal reply lentFit grant effect badIds badSlots slabFor firstFit slabSizes fieldWidth room bumpPending movesFrom
+pub at-rest : AtRest (state 9 4 calls)
+unfolding _⨾_ test answer next refusal refusalOf askRefusal reply lentFit grant effect badIds badSlots slabFor firstFit slabSizes fieldWidth room bumpPending movesFrom offeredColumn committedColumn putRow putRows upFrom keptRow committed
 at-rest = record {
   closed = refl;
   no-id = no-2 (state 9 4 calls .idMarks) refl;
@@ -72,9 +74,9 @@ at-rest = record {
         (and-true (inIds (state 9 4 calls) (suc i)) _ h .1)
 
 pub rebuild-met : RebuildMet
-unfolding sized _⨾_ test answer next refusal refusalOf askRefusal reply lentFit grant effect badIds badSlots slabFor firstFit slabSizes fieldWidth room bumpPending movesFrom
-rebuild-met = (calls, liveRows (state 9 4 calls), at-rest, live-rows (state 9 4 calls) (reached 9 4 refl calls) at-rest, refl, refl)
+unfolding sized _⨾_ test answer next refusal refusalOf askRefusal reply lentFit grant effect badIds badSlots slabFor firstFit slabSizes fieldWidth room bumpPending movesFrom offeredColumn committedColumn putRow putRows upFrom keptRow committed
+rebuild-met = (calls, liveRows (state 9 4 calls), liveBytes (state 9 4 calls), at-rest, live-rows (state 9 4 calls) (reached 9 4 refl calls) at-rest, refl, refl)
 
 pub abandon-met : AbandonMet
-unfolding _⨾_ test answer next refusal refusalOf askRefusal reply lentFit grant effect badIds badSlots slabFor firstFit slabSizes fieldWidth room bumpPending movesFrom
-abandon-met = (calls, record { ids = 1 ∷ []; stores = true ∷ []; lengths = 60 ∷ []; placed = 0 ∷ [] }, ask (lookup 3) ∷ newId ∷ [], refl, (refl, (refl, refl)), refl, refl)
+unfolding _⨾_ test answer next refusal refusalOf askRefusal reply lentFit grant effect badIds badSlots slabFor firstFit slabSizes fieldWidth room bumpPending movesFrom offeredColumn committedColumn putRow putRows upFrom keptRow committed
+abandon-met = (calls, record { ids = 1 ∷ []; stores = true ∷ []; lengths = 60 ∷ []; carried = collection 7; placed = 0 ∷ [] }, ask (lookup 3 (collection 0)) ∷ newId ∷ [], refl, (refl, (refl, refl)), refl, refl)

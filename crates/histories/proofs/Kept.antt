@@ -13,7 +13,7 @@ use Rattle.marks.specs.Marks.{hold, letGo, isPending}
 use Rattle.model.specs.Batches.{applyRow, applyRows, afterCommit}
 use Rattle.model.specs.Ids.{afterNewId, nextId, bumpPending, afterRelease}
 use Rattle.model.specs.Store.{Store, Row}
-use Rattle.model.specs.Tables.{slotPlace, kept, mostUpdates, allocators, capacities, locationOf}
+use Rattle.model.specs.Tables.{slotPlace, kept, mostUpdates, allocators, capacities, carriedBytes, locationOf}
 use Rattle.model.specs.Lending.{lentFit, sized}
 use Rattle.model.specs.Truncation.{keeps}
 use Rattle.model.proofs.Lists.{set-each, set-keeps}
@@ -28,7 +28,7 @@ abbrev pub lengths : Store → List ℕ
 lengths s =
     length (s .idMarks) ∷ length (s .locations) ∷ length (s .slotMarks) ∷ length (s .owners) ∷
     length (s .batch .keptIds) ∷ length (s .batch .keptLocations) ∷
-    length (s .tallies .granted) ∷ length (s .tallies .freed) ∷ length (s .tallies .used) ∷ length (s .tallies .high) ∷ []
+    length (s .tallies .granted) ∷ length (s .tallies .freed) ∷ length (s .tallies .used) ∷ length (s .tallies .high) ∷ length (s .carried) ∷ []
 
 pub sized-same : (s t : Store) → s .ids ≡ t .ids → s .slots ≡ t .slots → lengths s ≡ lengths t → sized s ≡ sized t
 unfolding sized lentFit
@@ -36,6 +36,7 @@ sized-same s t p q e = λ k.
     capacities (p k) (q k) &&
     (eqb (getD (e k) 0 0) (p k) && eqb (getD (e k) 1 0) (p k) && eqb (getD (e k) 2 0) (slabs * q k) && eqb (getD (e k) 3 0) (slabs * q k) &&
     (eqb (getD (e k) 4 0) mostUpdates && eqb (getD (e k) 5 0) mostUpdates) &&
+    eqb (getD (e k) 10 0) (carriedBytes (p k)) &&
     (eqb (getD (e k) 6 0) allocators && eqb (getD (e k) 7 0) allocators && eqb (getD (e k) 8 0) allocators && eqb (getD (e k) 9 0) slabs))
 
 -- ---- marks of ids change, and held ids above 0 stay held
@@ -194,17 +195,18 @@ pub record Frame (s t : Store) : Type 0 where
   pub slots : s .slots ≡ t .slots
   pub batch : s .batch ≡ t .batch
   pub tallies : s .tallies ≡ t .tallies
+  pub carried : s .carried ≡ t .carried
 
 row-frame : (s : Store) (i l o : ℕ) → Frame (applyRow s i l o) s
-row-frame s i zero o = record { ids = refl; slots = refl; batch = refl; tallies = refl }
-row-frame s i (suc l) o = record { ids = refl; slots = refl; batch = refl; tallies = refl }
+row-frame s i zero o = record { ids = refl; slots = refl; batch = refl; tallies = refl; carried = refl }
+row-frame s i (suc l) o = record { ids = refl; slots = refl; batch = refl; tallies = refl; carried = refl }
 
 pub rows-frame : (s : Store) (ks : List Row) → Frame (applyRows s ks) s
-rows-frame s [] = record { ids = refl; slots = refl; batch = refl; tallies = refl }
+rows-frame s [] = record { ids = refl; slots = refl; batch = refl; tallies = refl; carried = refl }
 rows-frame s (r ∷ rs) =
     let a = rows-frame (applyRow s (r .0) (r .1) (locationOf s (r .0))) rs in
     let b = row-frame s (r .0) (r .1) (locationOf s (r .0)) in
-    record { ids = a .ids ∙ b .ids; slots = a .slots ∙ b .slots; batch = a .batch ∙ b .batch; tallies = a .tallies ∙ b .tallies }
+    record { ids = a .ids ∙ b .ids; slots = a .slots ∙ b .slots; batch = a .batch ∙ b .batch; tallies = a .tallies ∙ b .tallies; carried = a .carried ∙ b .carried }
 
 pub keep-commit : (s : Store) → Inv s → Inv (afterCommit s)
 keep-commit s v = record {

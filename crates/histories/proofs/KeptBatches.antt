@@ -120,7 +120,7 @@ held-one s i le h =
 
 -- ---- offer
 
-ids-pairs : (us : List Update) (ls : List ℕ) → length ls ≡ length us → idsOf (pairs (length us) (map idOf us) ls) ≡ map idOf us
+pub ids-pairs : (us : List Update) (ls : List ℕ) → length ls ≡ length us → idsOf (pairs (length us) (map idOf us) ls) ≡ map idOf us
 ids-pairs [] ls e = refl
 ids-pairs (u ∷ us) [] e = absurd (suc-ne-zero (length us) (sym e))
 ids-pairs (u ∷ us) (l ∷ ls) e = ap (λ x. idOf u ∷ x) (ids-pairs us ls (omega arith))

@@ -16,7 +16,7 @@ use Rattle.list_parts.proofs.Lists.{elem-not, elem-tail, elem-head}
 use Rattle.address.specs.Address.{isLocation, slabs}
 use Rattle.model.specs.Rebuild.{rows, heldBy, locatedBy, ownedBy, rebuilt}
 use Rattle.model.specs.Store.{Store, Row}
-use Rattle.model.specs.Tables.{slotPlace, write, inIds, idsOf, locationsOf, writeAll, allocators, capacities}
+use Rattle.model.specs.Tables.{carriedBytes, slotPlace, write, inIds, idsOf, locationsOf, writeAll, allocators, capacities}
 use Rattle.model.specs.Lending.{lentFit, sized}
 use Rattle.model.specs.Truncation.{keeps}
 use Rattle.model.specs.Verdict.{ok}
@@ -172,12 +172,13 @@ length-ownedBy cap (r ∷ rs) t = length-ownedBy cap rs _ ∙ length-write cap (
 pub rebuilt-sized : (n m : ℕ) (rs : List Row) → capacities n m ≡ true → sized (rebuilt n m rs) ≡ true
 unfolding sized lentFit
 rebuilt-sized n m rs c = all c (
-    all (all (all (all (all
+    all (all (all (all (all (all
     (eq-eqb _ _ (length-heldBy rs _ ∙ length-replicate {A = ℕ} n 0))
     (eq-eqb _ _ (length-locatedBy rs _ ∙ length-replicate {A = ℕ} n 0)))
     (eq-eqb _ _ (length-writeAll m (locationsOf rs) 1 _ ∙ length-replicate {A = ℕ} (slabs * m) 0)))
     (eq-eqb _ _ (length-ownedBy m rs _ ∙ length-replicate {A = ℕ} (slabs * m) 0)))
     refl)
+    (eq-eqb _ _ (length-replicate {A = ℕ} (carriedBytes n) 0)))
     (all (all refl (eq-eqb _ _ (length-useEach m _ (locationsOf rs) ∙ length-set (replicate allocators 0) 0 (min 1 (length rs))))) refl))
 
 zero-good : (n m : ℕ) → m ≤ 65536 → Good m (replicate n 0) (replicate n 0) (replicate (slabs * m) 0) (replicate (slabs * m) 0) []

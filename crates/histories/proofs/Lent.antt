@@ -22,8 +22,8 @@ unfolding read
 capacities-lent m = (refl, refl)
 
 pub rebuild-agrees-lent : RebuildAgreesLent
-rebuild-agrees-lent n m h rs memory c a live en em l =
+rebuild-agrees-lent n m h rs bytes memory c a live en em l =
     let k = capacities-lent memory in
-    let r = rebuild-agrees n m h rs (read memory) c a live (k .0 ∙ en) (k .1 ∙ em) (sized-read memory l) in
-    let call = rebuild (columns rs) in
+    let r = rebuild-agrees n m h rs bytes (read memory) c a live (k .0 ∙ en) (k .1 ∙ em) (sized-read memory l) in
+    let call = rebuild (columns rs bytes) in
     (r .0, λ later. memory-agrees (memoryAfter memory call) later ∙ ap (λ s. answers s later) (read-after memory call) ∙ r .1 later)

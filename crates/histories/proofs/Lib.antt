@@ -4,6 +4,7 @@ pub mod KeptBatches
 pub mod KeptRebuild
 pub mod Reached
 pub mod Same
+pub mod SameRows
 pub mod SameMoves
 pub mod SameAnswers
 pub mod Abandoned

@@ -10,6 +10,7 @@ use lib.ListN.{getD}
 use Rattle.refusal.proofs.Tests.{clash}
 use Rattle.list_parts.specs.Lists.{elem}
 use Rattle.list_parts.proofs.Lists.{elem-cases}
+use Rattle.carried.specs.Carried.{width, rowsAt}
 use Rattle.model.specs.Step.{state}
 use Rattle.model.specs.Store.{Row, Store}
 use Rattle.model.specs.Tables.{idsOf, locationOf}
@@ -26,6 +27,10 @@ collect i (suc l ∷ ls) = (i, suc l) ∷ collect (suc i) ls
 
 abbrev pub liveRows : Store → List Row
 liveRows s = collect 0 (s .locations)
+
+-- and what they carry
+abbrev pub liveBytes : Store → List ℕ
+liveBytes s = rowsAt width (s .carried) (idsOf (liveRows s))
 
 from : (i : ℕ) (ls : List ℕ) (x : ℕ) → elem x (idsOf (collect i ls)) ≡ true → i ≤ x
 from i [] x e = clash (sym e)
@@ -63,7 +68,7 @@ all-there i (zero ∷ ls) (suc j) n = rw (add-suc, ← suc-add) (all-there (suc 
 all-there i (suc l ∷ ls) zero n = List·Memᴰ·head {x = (i, suc l)} (ap {B = Row} (λ x. (x, suc l)) (add-zero i))
 all-there i (suc l ∷ ls) (suc j) n = List·Memᴰ·tail {x = (i, suc l)} {xs = collect (suc i) ls} (rw (add-suc, ← suc-add) (all-there (suc i) ls j n))
 
-pub live-rows : (s : Store) → Inv s → AtRest s → LiveRows s (liveRows s)
+pub live-rows : (s : Store) → Inv s → AtRest s → LiveRows s (liveRows s) (liveBytes s)
 live-rows s v a = record {
   once = distinct 0 (s .locations);
   only = λ r m.
@@ -72,7 +77,8 @@ live-rows s v a = record {
       let l : locationOf s (r .0) ≡ r .1 = rw e (q .2) in
       (located-held s v a (r .0) (rw l (q .3)), l);
   every = λ i h. rw zero-add at (all-there 0 (s .locations) i (a .stored i h));
+  carries = refl;
 }
 
 pub rows-exist : RowsExist
-rows-exist n m h c a = (liveRows (state n m h), live-rows (state n m h) (reached n m c h) a)
+rows-exist n m h c a = (liveRows (state n m h), liveBytes (state n m h), live-rows (state n m h) (reached n m c h) a)

@@ -1,15 +1,18 @@
 -- Every store that a history reaches is of the invariant. Assumes nothing.
-use mathlib.Core.Path.{_≡_, refl, _∙_}
+use mathlib.Core.Path.{_≡_, refl, sym, ap, _∙_}
 use mathlib.Core.Bool.{true}
 use mathlib.Core.List.{List, [], _∷_}
 use Prim.Native.Nat.{ℕ, _<_, zero, suc, _≤_, max, pred}
 use native.Mathlib.Omega.{arith}
 use lib.ListN.{length, getD, length-set, set}
-use Rattle.model.specs.Batches.{updatesIn}
+use Rattle.carried.specs.Carried.{width}
+use Rattle.carried.proofs.Laws.{length-putRows, length-committed}
+use Rattle.model.specs.Batches.{updatesIn, afterOffer, afterCommit}
+use Rattle.model.specs.Columns.{offeredColumn, committedColumn, rebuiltColumn}
 use Rattle.model.specs.Rebuild.{rebuilt, rowsIn, freshStore}
 use Rattle.model.specs.Step.{effect, refusalOf, refusal, next, unless, after}
-use Rattle.model.specs.Store.{Store, Call, newId, release, offer, commit, abandon, fresh, rebuild, ask, truncation, report}
-use Rattle.model.specs.Tables.{capacities, slabTip}
+use Rattle.model.specs.Store.{Store, withCarried, Call, newId, release, offer, commit, abandon, fresh, rebuild, ask, truncation, report}
+use Rattle.model.specs.Tables.{capacities, kept, slabTip}
 use Rattle.model.specs.Lending.{sized}
 use Rattle.model.specs.Truncation.{withHigh, raise}
 use Rattle.model.specs.Verdict.{ok, Verdict, refuse}
@@ -20,7 +23,7 @@ use Rattle.model.proofs.Lists.{set-each}
 use Rattle.model.proofs.Verdicts.{then-ok}
 use Rattle.histories.specs.Invariant.{Inv}
 use Rattle.histories.specs.Statements.{Reached}
-use Rattle.histories.proofs.Kept.{sized-same, keep-newId, keep-release, keep-commit}
+use Rattle.histories.proofs.Kept.{sized-same, rows-frame, keep-newId, keep-release, keep-commit}
 use Rattle.histories.proofs.KeptBatches.{keep-offer, keep-abandon}
 use Rattle.histories.proofs.KeptRebuild.{rebuilt-inv, rows-apart}
 
@@ -30,22 +33,29 @@ caps-of s e = sized-sizes s e .caps
 keep-high : (s : Store) (h : List ℕ) → length h ≡ length (s .tallies .high) → ((k : ℕ) → getD h k 0 < s .slots) → Inv s → Inv (withHigh s h)
 keep-high s h e m v = record { is-sized = sized-same (withHigh s h) s refl refl (rw e) ∙ v .is-sized; few = v .few; tops = m; good = v .good }
 
+-- another column of the same length
+pub keep-carried : (s : Store) (c : List ℕ) → length c ≡ length (s .carried) → Inv s → Inv (withCarried s c)
+keep-carried s c e v = record { is-sized = sized-same (withCarried s c) s refl refl (rw e) ∙ v .is-sized; few = v .few; tops = v .tops; good = v .good }
+
 raise-lt : (h : List ℕ) (k t n : ℕ) → t ≤ n → ((i : ℕ) → getD h i 0 < n) → (i : ℕ) → getD (raise h k t) i 0 < n
 raise-lt h k zero n p a = a
 raise-lt h k (suc t) n p a = set-each (λ x. x < n) h k (max (getD h k 0) t) (omega (arith, a k)) a
 
 pub keep-effect : (s : Store) (c : Call) → Inv s → refusal s c ≡ ok → Inv (effect s c)
-unfolding refusalOf effect
+unfolding refusalOf effect offeredColumn committedColumn rebuiltColumn
 keep-effect s newId v e = keep-newId s v
 keep-effect s release v e = keep-release s v
 keep-effect s (offer o) v e =
     let g = offer-granted s o e in
-    keep-offer s (updatesIn o) v (g .shut) (rw (length-updatesOf (o .ids) (o .stores) (o .lengths) (g .stores) (g .lengths)) (g .few)) (g .fit)
-keep-effect s commit v e = keep-commit s v
+    keep-carried (afterOffer s (updatesIn o)) (offeredColumn (s .ids) o (s .carried)) (length-putRows width _ _ (s .carried))
+    (keep-offer s (updatesIn o) v (g .shut) (rw (length-updatesOf (o .ids) (o .stores) (o .lengths) (g .stores) (g .lengths)) (g .few)) (g .fit))
+keep-effect s commit v e = keep-carried (afterCommit s) (committedColumn (s .ids) (kept s) (s .carried))
+    (length-committed width (s .ids) (kept s) (s .carried) ∙ ap length (sym (rows-frame s (kept s) .carried))) (keep-commit s v)
 keep-effect s abandon v e = keep-abandon s v
 keep-effect s fresh v e = rebuilt-inv s [] (caps-of s (v .is-sized)) tt
 keep-effect s (rebuild rs) v e =
-    rebuilt-inv s (rowsIn rs) (caps-of s (v .is-sized)) (rows-apart s [] [] 0 (rowsIn rs) (then-ok _ _ (granted-rest s (rebuild rs) e)))
+    keep-carried (rebuilt (s .ids) (s .slots) (rowsIn rs)) (rebuiltColumn (s .ids) rs) (length-putRows width (rs .ids) (rs .carried) _)
+    (rebuilt-inv s (rowsIn rs) (caps-of s (v .is-sized)) (rows-apart s [] [] 0 (rowsIn rs) (then-ok _ _ (granted-rest s (rebuild rs) e))))
 keep-effect s (ask q) v e = v
 keep-effect s (truncation k t) v e = keep-high s (raise (s .tallies .high) k (slabTip s k)) (length-raise (s .tallies .high) k (slabTip s k))
     (raise-lt (s .tallies .high) k (slabTip s k) (s .slots) (slabTip-le s (sized-sizes s (v .is-sized) .range .slots-from) k) (v .tops)) v

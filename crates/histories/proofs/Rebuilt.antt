@@ -3,26 +3,30 @@ use mathlib.Core.Path.{ap, _≡_, refl, _∙_, sym}
 use mathlib.Core.Logic.{_⊎_, inl, inr, _≢_}
 use mathlib.Core.Bool.{true, not, false, Bool, _&&_}
 use mathlib.Core.List.{List, [], _∷_, List·Memᴰ, List·Memᴰ·not-nil, List·Memᴰ·cases-cons, List·Memᴰ·head, List·Memᴰ·tail}
-use Prim.Native.Nat.{ℕ, suc, _<_, _≤_, _*_, _/_, _%_, pred}
+use Prim.Native.Nat.{ℕ, suc, _+_, _<_, _≤_, _*_, _/_, _%_, pred}
 use native.Mathlib.Nat.{mod-lt, div-lt-iff-lt-mul, div-add-mod'}
 use native.Mathlib.Decide.{ℕ-discrete}
 use native.Mathlib.Omega.{arith}
 use lib.Dec.{ltb}
 use lib.ListN.{getD, set, length, length-set, replicate, length-replicate, length-drop}
 use lib.Seq.{getD-set-same, getD-set-other, ext-getD}
-use borrow.Author.Tests.{lt-ltb}
+use borrow.Author.Tests.{lt-ltb, ltb-true, eq-eqb}
 use Rattle.refusal.specs.Refusals.{noSuchId, repeatedId, outOfRange, repeatedLocation, wrongShape}
 use Rattle.refusal.proofs.Tests.{clash, and-true, all, contradiction}
 use Rattle.list_parts.specs.Lists.{elem}
 use Rattle.list_parts.proofs.Lists.{elem-head, elem-tail, elem-cases, elem-not}
+use Rattle.list_parts.specs.Parts.{part}
+use Rattle.carried.specs.Carried.{width, putRows}
+use Rattle.carried.proofs.Laws.{length-putRows, putRows-own, length-rowsAt}
 use Rattle.address.specs.Address.{packing, isLocation, slabs}
 use Rattle.marks.specs.Marks.{isHeld}
 use Rattle.id_allocator.specs.Written.{opened}
+use Rattle.model.specs.Columns.{rebuiltColumn}
 use Rattle.model.specs.Rebuild.{rows, columns, heldBy, locatedBy, rebuilt, freshStore}
 use Rattle.model.specs.Lending.{everyTable, sized}
 use Rattle.model.specs.Step.{effect, next, refusalOf, refusal, unless, after, state}
-use Rattle.model.specs.Store.{Store, Call, newId, release, offer, commit, abandon, fresh, rebuild, ask, truncation, report, Row}
-use Rattle.model.specs.Tables.{kept, slotPlace, idsOf, locationsOf, heldId, locationOf, live, inIds, writeAll, pairs}
+use Rattle.model.specs.Store.{Store, withCarried, Rows, Call, newId, release, offer, commit, abandon, fresh, rebuild, ask, truncation, report, Row}
+use Rattle.model.specs.Tables.{mostUpdates, carriedBytes, kept, slotPlace, idsOf, locationsOf, heldId, locationOf, live, inIds, writeAll, pairs}
 use Rattle.model.specs.Verdict.{ok, Verdict, refuse, _⨾_, test}
 use Rattle.model.proofs.Answered.{next-granted}
 use Rattle.model.proofs.Rows.{asLong-rows, rowsOf-rows}
@@ -35,8 +39,9 @@ use Rattle.histories.specs.Statements.{Distinct, none, more, AtRest, Liv
 use Rattle.histories.proofs.Kept.{rows-frame}
 use Rattle.histories.proofs.KeptBatches.{held-one}
 use Rattle.histories.proofs.KeptRebuild.{Apart, length-heldBy, length-locatedBy, rebuilt-inv}
-use Rattle.histories.proofs.Reached.{reached, caps-of}
-use Rattle.histories.proofs.Same.{Same, drop-get}
+use Rattle.histories.proofs.Reached.{reached, caps-of, keep-carried}
+use Rattle.histories.proofs.Same.{Same, same-carried, drop-get}
+use Rattle.histories.proofs.SameRows.{Alike, closed-alike}
 use Rattle.histories.proofs.SameAnswers.{answers-same}
 
 -- ---- the capacities stay
@@ -188,7 +193,7 @@ module _ (s : Store) (v : Inv s) (a : AtRest s) where
       let h : getD (s .idMarks) i 0 ≤ 2 = v .good .id-mark i in
       omega arith
 
-module _ (s : Store) (v : Inv s) (a : AtRest s) (rs : List Row) (live : LiveRows s rs) where
+module _ (s : Store) (v : Inv s) (a : AtRest s) (rs : List Row) (bytes : List ℕ) (live : LiveRows s rs bytes) where
   row-located : (r : Row) → List·Memᴰ r rs → Located (s .slots) (s .idMarks) (s .slotMarks) (s .owners) (r .0) (r .1)
   row-located r m = let o = live .only r m in rw (o .1) at (v .good .located (r .0) (a .stored (r .0) (o .0)))
 
@@ -304,6 +309,26 @@ module _ (s : Store) (v : Inv s) (a : AtRest s) (rs : List Row) (live : LiveRows
     batch = ap (λ n. pairs (pred n) (s .batch .keptIds) (s .batch .keptLocations)) (sym (a .closed));
   }
 
+  -- the ids of the rows are in range, and so each has its bytes
+  row-lt : (i : ℕ) → elem i (idsOf rs) ≡ true → i < s .ids + mostUpdates
+  row-lt i m =
+      let q = id-mem i rs m in
+      let h = ltb-true (q .0 .0) (s .ids) (and-true (ltb 0 (q .0 .0)) _ (and-true (inIds s (q .0 .0)) _ (live .only (q .0) (q .1) .0) .0) .1) in
+      omega (arith, q .2)
+
+  long-bytes : length bytes ≡ length (idsOf rs) * width
+  long-bytes = ap length (live .carries) ∙ length-rowsAt width (s .ids + mostUpdates) (s .carried) (idsOf rs) (sz s v a .carried) row-lt
+
+  rebuilt-alike : Alike (withCarried (rebuilt (s .ids) (s .slots) rs) (rebuiltColumn (s .ids) (columns rs bytes))) s
+  unfolding rebuiltColumn
+  rebuilt-alike = closed-alike (same-carried _ (s .carried) rebuilt-same)
+      (λ i n.
+      let m : elem i (idsOf rs) ≡ true = mem-id (i, locationOf s i) rs (live .every i (located-held s v a i (rw (sym (located-at i)) n))) in
+      ap (λ b. part width (putRows width (idsOf rs) b (replicate (carriedBytes (s .ids)) 0)) i) (live .carries)
+      ∙ putRows-own width (s .ids + mostUpdates) (idsOf rs) (s .carried) (replicate (carriedBytes (s .ids)) 0) i
+      (length-replicate {A = ℕ} (carriedBytes (s .ids)) 0) (sz s v a .carried) row-lt m)
+      refl
+
 -- whether rows are granted turns on the capacities alone
 rows-by-caps : (s t : Store) → s .ids ≡ t .ids → s .slots ≡ t .slots → (is ls : List ℕ) (i : ℕ) (rs : List Row) → rows s is ls i rs ≡ rows t is ls i rs
 rows-by-caps s t p q is ls i [] = refl
@@ -312,29 +337,39 @@ rows-by-caps s t p q is ls i (r ∷ rs) = λ k.
     ⨾ test (elem (r .1) ls) repeatedLocation i ⨾
     rows-by-caps s t p q (r .0 ∷ is) (r .1 ∷ ls) (suc i) rs k
 
-live-granted : (s : Store) → Inv s → AtRest s → (rs : List Row) → LiveRows s rs → (memory : Store) → memory .ids ≡ s .ids → memory .slots ≡ s .slots
-    → sized memory ≡ true → refusal memory (rebuild (columns rs)) ≡ ok
+live-granted : (s : Store) → Inv s → AtRest s → (rs : List Row) (bytes : List ℕ) → LiveRows s rs bytes → (memory : Store) → memory .ids ≡ s .ids → memory .slots ≡ s .slots
+    → sized memory ≡ true → refusal memory (rebuild (columns rs bytes)) ≡ ok
 unfolding refusal refusalOf _⨾_ test
-live-granted s v a rs live memory p q z = λ k.
-    sized-shape memory z (rebuild (columns rs)) k ⨾ test (not (asLong-rows rs k)) wrongShape 0 ⨾
+live-granted s v a rs bytes live memory p q z = λ k.
+    sized-shape memory z (rebuild (columns rs bytes)) k ⨾
+    test (not (all (asLong-rows rs) (eq-eqb _ _ (long-bytes s v a rs bytes live)) k)) wrongShape 0 ⨾
     (ap (rows memory [] [] 0) (rowsOf-rows rs) ∙ rows-by-caps memory s p q [] [] 0 rs
-    ∙ apart-granted s [] [] 0 rs (live-apart s v a rs live) (λ x e. clash (sym e)) (λ x e. clash (sym e))) k
+    ∙ apart-granted s [] [] 0 rs (live-apart s v a rs bytes live) (λ x e. clash (sym e)) (λ x e. clash (sym e))) k
 
-rebuild-next : (memory : Store) (rs : List Row) → refusal memory (rebuild (columns rs)) ≡ ok
-    → next memory (rebuild (columns rs)) ≡ rebuilt (memory .ids) (memory .slots) rs
+rebuild-next : (memory : Store) (rs : List Row) (bytes : List ℕ) → refusal memory (rebuild (columns rs bytes)) ≡ ok
+    → next memory (rebuild (columns rs bytes)) ≡ withCarried (rebuilt (memory .ids) (memory .slots) rs) (rebuiltColumn (memory .ids) (columns rs bytes))
 unfolding effect
-rebuild-next memory rs e = next-granted memory (rebuild (columns rs)) e ∙ ap (rebuilt (memory .ids) (memory .slots)) (rowsOf-rows rs)
+rebuild-next memory rs bytes e =
+    next-granted memory (rebuild (columns rs bytes)) e
+    ∙ ap (λ x. withCarried (rebuilt (memory .ids) (memory .slots) x) (rebuiltColumn (memory .ids) (columns rs bytes))) (rowsOf-rows rs)
+
+length-rebuilt : (n : ℕ) (rs : Rows) → length (rebuiltColumn n rs) ≡ length (replicate {A = ℕ} (carriedBytes n) 0)
+unfolding rebuiltColumn
+length-rebuilt n rs = length-putRows width (rs .ids) (rs .carried) _
 
 pub rebuild-agrees : RebuildAgrees
-rebuild-agrees n m h rs memory c a live en em z =
+rebuild-agrees n m h rs bytes memory c a live en em z =
     let s = state n m h in
     let v : Inv s = reached n m c h in
     let k = after-caps (freshStore n m) h in
     let p : memory .ids ≡ s .ids = en ∙ sym (k .0) in
     let q : memory .slots ≡ s .slots = em ∙ sym (k .1) in
-    let g : refusal memory (rebuild (columns rs)) ≡ ok = live-granted s v a rs live memory p q z in (
+    let g : refusal memory (rebuild (columns rs bytes)) ≡ ok = live-granted s v a rs bytes live memory p q z in (
       g,
       λ later.
-          ap (λ x. answers x later) (rebuild-next memory rs g ∙ λ i. rebuilt (p i) (q i) rs)
-          ∙ answers-same (rebuilt (s .ids) (s .slots) rs) s (rebuilt-same s v a rs live) (rebuilt-inv s rs (caps-of s (v .is-sized)) (live-apart s v a rs live)) v later,
+          ap (λ x. answers x later)
+          (rebuild-next memory rs bytes g ∙ λ i. withCarried (rebuilt (p i) (q i) rs) (rebuiltColumn (p i) (columns rs bytes)))
+          ∙ answers-same (withCarried (rebuilt (s .ids) (s .slots) rs) (rebuiltColumn (s .ids) (columns rs bytes))) s (rebuilt-alike s v a rs bytes live)
+          (keep-carried (rebuilt (s .ids) (s .slots) rs) _ (length-rebuilt (s .ids) (columns rs bytes))
+          (rebuilt-inv s rs (caps-of s (v .is-sized)) (live-apart s v a rs bytes live))) v later,
     )

@@ -1,4 +1,4 @@
--- Two stores that no call but the excepted ones tells apart, and that they refuse alike. Assumes nothing.
+-- Two stores whose placement no call but the excepted ones tells apart, and that they refuse alike. Assumes nothing.
 use mathlib.Core.Path.{_≡_, refl, sym, _∙_, ap}
 use mathlib.Core.Bool.{false, not, _&&_, _||_}
 use mathlib.Core.List.{List, [], _∷_}
@@ -13,13 +13,18 @@ use Rattle.list_parts.specs.Lists.{elem}
 use Rattle.address.specs.Address.{isLocation, slabs}
 use Rattle.marks.specs.Marks.{isHeld, firstFree}
 use Rattle.id_allocator.specs.Written.{opened}
+use Rattle.snapshot_blocks.specs.Formats.{version1}
+use Rattle.snapshot_blocks.specs.Files.{fileLength}
+use Rattle.carried.specs.Carried.{width}
 use Rattle.fragmentation.specs.Cutoff.{isRatio}
 use Rattle.model.specs.Batches.{updates, idOf, noClass, room, badRow, commitRows, abandonRows, takenBy, place, updatesIn}
+use Rattle.model.specs.Columns.{carriesFor}
 use Rattle.model.specs.Ids.{nextId}
 use Rattle.model.specs.Questions.{askRefusal}
 use Rattle.model.specs.Rebuild.{rows, rowsIn}
+use Rattle.model.specs.Snapshots.{thoseFrom, storedIds, snapshotRows}
 use Rattle.model.specs.Step.{refusalOf, refusal, slabRefusal}
-use Rattle.model.specs.Store.{Store, Update, Row, Offer, Rows, Question, lookup, counters, defrag, Call, newId, release, offer, commit, abandon, rebuild}
+use Rattle.model.specs.Store.{Store, withCarried, Update, Row, Offer, Rows, Question, lookup, counters, defrag, snapshotLength, snapshot, Call, newId, release, offer, commit, abandon, rebuild}
 use Rattle.model.specs.Tables.{mostUpdates, mostOpened, kept, badLocation, locationOf, badAt, isOpen, inIds, heldId}
 use Rattle.model.specs.Tests.{shape, lists, asLong, noneOpen, oneOpen}
 use Rattle.model.specs.Truncation.{highMark, isTarget}
@@ -61,6 +66,18 @@ same-trans e f = record {
   slot-marks = e .slot-marks ∙ f .slot-marks;
   opened = e .opened ∙ f .opened;
   batch = e .batch ∙ f .batch;
+}
+
+-- placement does not look at what rows carry
+pub same-carried : {s t : Store} (c d : List ℕ) → Same s t → Same (withCarried s c) (withCarried t d)
+same-carried c d e = record {
+  ids = e .ids;
+  slots = e .slots;
+  id-marks = e .id-marks;
+  locations = e .locations;
+  slot-marks = e .slot-marks;
+  opened = e .opened;
+  batch = e .batch;
 }
 
 -- ---- the table of ids' marks but its first
@@ -161,13 +178,20 @@ module _ (s t : Store) (e : Same s t) (vs : Inv s) (vt : Inv t) where
       test (leb slabs k || (lt-leb (s .slots) (highMark s k) (vs .tops k) ∙ sym (lt-leb (t .slots) (highMark t k) (vt .tops k))) i) outOfRange 0 ⨾
       test (not (isTarget d)) ratioOutOfRange 0
 
+  pub stored-same : storedIds s ≡ storedIds t
+  stored-same = λ k. thoseFrom (λ i. held-same i k && not (eqb (loc-same i k) 0)) (e .ids k) 0
+
   -- a question is refused alike
   pub ask-same : (q : Question) → askRefusal s q ≡ askRefusal t q
   unfolding askRefusal
-  ask-same (lookup i) = λ k. test (not (held-same i k) || eqb (loc-same i k) 0) noSuchId 0 ⨾ test (bad-same i k) tablesDisagree 0
+  ask-same (lookup i row) = λ k. lists (eqb (length row) width) ⨾ test (not (held-same i k) || eqb (loc-same i k) 0) noSuchId 0 ⨾ test (bad-same i k) tablesDisagree 0
   ask-same counters = refl
   ask-same (defrag r is ls) = λ k.
       lists (eqb (suc (length is)) (e .ids k) && asLong is ls) ⨾ none-open k ⨾ test (not (isRatio r)) ratioOutOfRange 0
+  ask-same snapshotLength = none-open
+  ask-same (snapshot file) = λ k.
+      lists (eqb (length file) (fileLength version1 (length (stored-same k)))) ⨾ none-open k ⨾
+      snapshotRows (λ i. bad-same i k) 0 (stored-same k)
 
   -- ---- refused alike: the tests after refusal 1, which no such store gives for its tables
 
@@ -182,7 +206,7 @@ module _ (s t : Store) (e : Same s t) (vs : Inv s) (vt : Inv t) where
   pub rest-offer : (o : Offer) → refusalOf s (offer o) ≡ refusalOf t (offer o)
   unfolding refusalOf
   rest-offer o = λ k.
-      lists (asLong (o .ids) (o .stores) && asLong (o .ids) (o .lengths) && asLong (o .ids) (o .placed)) ⨾ none-open k ⨾
+      lists (asLong (o .ids) (o .stores) && asLong (o .ids) (o .lengths) && asLong (o .ids) (o .placed) && carriesFor (o .ids) (o .carried)) ⨾ none-open k ⨾
       test (ltb mostUpdates (length (o .ids))) tooMany 0 ⨾ updates-same [] 0 (updatesIn o) k ⨾ room-same (updatesIn o) slabs 0 k
 
   pub rest-commit : refusalOf s commit ≡ refusalOf t commit
@@ -195,7 +219,7 @@ module _ (s t : Store) (e : Same s t) (vs : Inv s) (vt : Inv t) where
 
   pub rest-rebuild : (rs : Rows) → refusalOf s (rebuild rs) ≡ refusalOf t (rebuild rs)
   unfolding refusalOf
-  rest-rebuild rs = λ k. lists (asLong (rs .ids) (rs .locations)) ⨾ rows-same [] [] 0 (rowsIn rs) k
+  rest-rebuild rs = λ k. lists (asLong (rs .ids) (rs .locations) && carriesFor (rs .ids) (rs .carried)) ⨾ rows-same [] [] 0 (rowsIn rs) k
 
   pub refusal-by : (c : Call) → refusalOf s c ≡ refusalOf t c → refusal s c ≡ refusal t c
   unfolding refusal

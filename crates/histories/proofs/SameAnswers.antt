@@ -1,32 +1,43 @@
--- Two such stores answer alike, and are such stores after each call. Assumes nothing.
+-- Two such stores whose rows carry the same (SameRows) answer alike, and are such stores after each call. Assumes nothing.
 use mathlib.Core.Path.{_≡_, ap, refl, subst, _∙_, sym}
-use mathlib.Core.Bool.{Bool, true, false}
+use mathlib.Core.Logic.{_≢_}
+use mathlib.Core.Bool.{Bool, true, false, not}
 use mathlib.Core.List.{List, [], _∷_, map}
 use Prim.Native.Nat.{ℕ, zero, suc}
+use lib.Dec.{eqb}
 use lib.ListN.{drop, set, getD, length}
+use borrow.Author.Tests.{eqb-false}
 use Rattle.refusal.specs.Outcomes.{granted}
 use Rattle.refusal.specs.Refusals.{nothingToCut}
+use Rattle.refusal.proofs.Tests.{or-false}
 use Rattle.list_parts.proofs.Lists.{drop-map}
+use Rattle.snapshot_blocks.specs.Formats.{version1}
+use Rattle.snapshot_blocks.specs.Files.{fileOf, fileLength}
+use Rattle.carried.specs.Carried.{width}
+use Rattle.carried.proofs.Laws.{Carry}
 use Rattle.marks.specs.Marks.{hold, letGo}
 use Rattle.id_allocator.specs.Written.{opened}
 use Rattle.model.specs.Batches.{applyRow, applyRows, afterOffer, idOf, afterCommit, afterAbandon, updatesIn}
 use Rattle.model.specs.Ids.{afterNewId, nextId, afterRelease}
-use Rattle.model.specs.Questions.{reply}
-use Rattle.model.specs.Rebuild.{rebuilt, rowsIn}
+use Rattle.model.specs.Columns.{rebuiltColumn}
+use Rattle.model.specs.Questions.{askRefusal, reply}
+use Rattle.model.specs.Rebuild.{rebuilt, rowsIn, freshStore}
 use Rattle.model.specs.Step.{next, refusalOf, refusal, grant, effect, answer, answerBy, unless, slabRefusal}
-use Rattle.model.specs.Store.{Store, Row, Batch, withBatch, Update, Question, lookup, counters, defrag, Call, newId, release, offer, commit, abandon, fresh, rebuild, ask, truncation, report}
-use Rattle.model.specs.Store.{done, gave, placed, moves}
-use Rattle.model.specs.Tables.{write, locationOf, shut, writeAll, kept, pairs, locationsOf, slabTip}
+use Rattle.model.specs.Store.{Store, withCarried, Row, Batch, withBatch, Update, Question, lookup, counters, defrag, snapshotLength, snapshot, Call, newId, release, offer, commit, abandon, fresh, rebuild, ask, truncation, report}
+use Rattle.model.specs.Store.{done, gave, found, placed, moves, wrote}
+use Rattle.model.specs.Tables.{write, locationOf, heldId, shut, writeAll, kept, pairs, locationsOf, slabTip}
 use Rattle.model.specs.Tests.{shape}
 use Rattle.model.specs.Truncation.{highMark, withHigh, cutAt, keeps}
 use Rattle.model.specs.Verdict.{Verdict, ok, refuse, _⨾_, test}
-use Rattle.model.proofs.Verdicts.{assoc}
+use Rattle.model.proofs.Granted.{granted-rest, offer-granted}
+use Rattle.model.proofs.Verdicts.{assoc, test-ok, first-ok, then-ok}
 use Rattle.histories.specs.Invariant.{Inv}
 use Rattle.histories.specs.Statements.{seen, veil, shown, answers}
 use Rattle.histories.proofs.KeptBatches.{kept-offer}
 use Rattle.histories.proofs.Reached.{keep-next}
-use Rattle.histories.proofs.Same.{Same, drop-set, same-refl, drop-set-zero, next-same, taken-same, same-trans, shapes, slab-same, ask-same, rest-newId, rest-release, rest-offer, rest-commit, rest-abandon, rest-rebuild, refusal-by, loc-same, same-sym}
+use Rattle.histories.proofs.Same.{Same, drop-set, same-refl, drop-set-zero, next-same, taken-same, same-trans, shapes, slab-same, ask-same, rest-newId, rest-release, rest-offer, rest-commit, rest-abandon, rest-rebuild, refusal-by, loc-same, same-sym, stored-same}
 use Rattle.histories.proofs.SameMoves.{allMoves-same}
+use Rattle.histories.proofs.SameRows.{Alike, KeptAlike, equal-alike, closed-alike, offer-alike, commit-alike, entries-alike}
 
 -- ---- the store after a granted call
 
@@ -125,20 +136,18 @@ module _ (s t : Store) (e : Same s t) (vs : Inv s) (vt : Inv t) where
     batch = refl;
   }
 
-  rebuilt-leaves : (rs : List Row) → Same (rebuilt (s .ids) (s .slots) rs) (rebuilt (t .ids) (t .slots) rs)
-  rebuilt-leaves rs = equal-same λ k. rebuilt (e .ids k) (e .slots k) rs
-
-  -- a call that is answered alike in both
-  both-by : (c : Call) → refusalOf s c ≡ refusalOf t c → seen c (granted (grant s c)) ≡ seen c (granted (grant t c)) → Same (effect s c) (effect t c)
-      → (seen c (answer s c) ≡ seen c (answer t c)) × Same (next s c) (next t c)
-  unfolding answer next
-  both-by c r g f = go (refusal t c) (refusal-by s t e vs vt c r) refl
-    where
-      go : (w : Verdict) → refusal s c ≡ w → refusal t c ≡ w
-          → (seen c (answerBy (refusal s c) (grant s c)) ≡ seen c (answerBy (refusal t c) (grant t c)))
-          × Same (unless (refusal s c) s (effect s c)) (unless (refusal t c) t (effect t c))
-      go ok p q = rw (p, q) (g, f)
-      go (refuse n i) p q = rw (p, q) (refl, e)
+-- a call that is answered alike in both
+both-by : (s t : Store) → Alike s t → Inv s → Inv t → (c : Call) → refusalOf s c ≡ refusalOf t c
+    → (refusal s c ≡ ok → seen c (granted (grant s c)) ≡ seen c (granted (grant t c))) → (refusal s c ≡ ok → Alike (effect s c) (effect t c))
+    → (seen c (answer s c) ≡ seen c (answer t c)) × Alike (next s c) (next t c)
+unfolding answer next
+both-by s t e vs vt c r g f = go (refusal t c) (refusal-by s t (e .same) vs vt c r) refl
+  where
+    go : (w : Verdict) → refusal s c ≡ w → refusal t c ≡ w
+        → (seen c (answerBy (refusal s c) (grant s c)) ≡ seen c (answerBy (refusal t c) (grant t c)))
+        × Alike (unless (refusal s c) s (effect s c)) (unless (refusal t c) t (effect t c))
+    go ok p q = rw (p, q) (g p, f p)
+    go (refuse n i) p q = rw (p, q) (refl, e)
 
 -- a refused call leaves the store, and so does one whose effect none but the excepted calls see
 unseen-effect : (s : Store) (c : Call) → Same s (effect s c) → Same s (next s c)
@@ -169,35 +178,73 @@ report-seen s t e vs vt k d =
     keeping : Store → Verdict
     keeping x = test (keeps (cutAt k (highMark x k) d (slabTip x k))) nothingToCut 0
 
--- what a question grants
-reply-seen : (s t : Store) → Same s t → Inv s → Inv t → (q : Question) → seen (ask q) (granted (reply s q)) ≡ seen (ask q) (granted (reply t q))
-unfolding reply
-reply-seen s t e vs vt (lookup i) = ap (λ l. shown (granted (gave l))) (loc-same s t e vs vt i)
-reply-seen s t e vs vt counters = refl
-reply-seen s t e vs vt (defrag r is ls) = ap (λ ms. shown (granted (moves ms))) (allMoves-same s t e vs vt r)
+-- a lookup that is granted finds a location
+found-one : (s : Store) (i : ℕ) (row : List ℕ) → refusal s (ask (lookup i row)) ≡ ok → locationOf s i ≢ 0
+unfolding refusalOf askRefusal
+found-one s i row e =
+    let d = test-ok _ _ _ (first-ok _ _ (then-ok _ _ (granted-rest s (ask (lookup i row)) e))) in
+    eqb-false (locationOf s i) 0 (or-false (not (heldId s i)) (eqb (locationOf s i) 0) d .1)
 
-pub step-same : (s t : Store) → Same s t → Inv s → Inv t → (c : Call) → (seen c (answer s c) ≡ seen c (answer t c)) × Same (next s c) (next t c)
+-- what a question grants
+reply-seen : (s t : Store) → Alike s t → Inv s → Inv t → (q : Question) → refusal s (ask q) ≡ ok
+    → seen (ask q) (granted (reply s q)) ≡ seen (ask q) (granted (reply t q))
+unfolding reply
+reply-seen s t e vs vt (lookup i row) r = λ k. shown (granted (found (loc-same s t (e .same) vs vt i k) (e .rows i (found-one s i row r) k)))
+reply-seen s t e vs vt counters r = refl
+reply-seen s t e vs vt (defrag r is ls) x = ap (λ ms. shown (granted (moves ms))) (allMoves-same s t (e .same) vs vt r)
+reply-seen s t e vs vt snapshotLength r = ap (λ is. shown (granted (gave (fileLength version1 (length is))))) (stored-same s t (e .same) vs vt)
+reply-seen s t e vs vt (snapshot file) r = ap (λ es. shown (granted (wrote (fileOf version1 es)))) (entries-alike s t e vs vt)
+
+-- a cut report may be refused in one and granted in the other, and moves a high mark alone
+report-alike : (s t : Store) → Alike s t → (k d : ℕ) → Alike (next s (report k d)) (next t (report k d))
+unfolding next effect
+report-alike s t e k d = record {
+  same = same-trans (same-sym (unseen-effect s (report k d) (high-same s _))) (same-trans (e .same) (unseen-effect t (report k d) (high-same t _)));
+  rows = rows (refusal s (report k d)) (refusal t (report k d));
+  kept-rows = kept-rows (refusal s (report k d)) (refusal t (report k d));
+}
+  where
+    rows : (w x : Verdict) → Carry width (unless w s (effect s (report k d)) .locations) (unless w s (effect s (report k d)) .carried)
+        (unless x t (effect t (report k d)) .carried)
+    rows ok ok = e .rows
+    rows ok (refuse n i) = e .rows
+    rows (refuse n i) ok = e .rows
+    rows (refuse n i) (refuse n₁ i₁) = e .rows
+
+    kept-rows : (w x : Verdict) → KeptAlike (unless w s (effect s (report k d))) (unless x t (effect t (report k d)))
+    kept-rows ok ok = e .kept-rows
+    kept-rows ok (refuse n i) = e .kept-rows
+    kept-rows (refuse n i) ok = e .kept-rows
+    kept-rows (refuse n i) (refuse n₁ i₁) = e .kept-rows
+
+pub step-same : (s t : Store) → Alike s t → Inv s → Inv t → (c : Call) → (seen c (answer s c) ≡ seen c (answer t c)) × Alike (next s c) (next t c)
 unfolding refusalOf grant effect
 step-same s t e vs vt newId =
-    both-by s t e vs vt newId (rest-newId s t e vs vt) (ap (λ n. shown (granted (gave n))) (next-same s t e vs vt)) (newId-same s t e vs vt)
-step-same s t e vs vt release = both-by s t e vs vt release (rest-release s t e vs vt) refl (release-same s t e vs vt)
+    both-by s t e vs vt newId (rest-newId s t (e .same) vs vt) (λ r. ap (λ n. shown (granted (gave n))) (next-same s t (e .same) vs vt))
+    (λ r. record { same = newId-same s t (e .same) vs vt; rows = e .rows; kept-rows = e .kept-rows })
+step-same s t e vs vt release =
+    both-by s t e vs vt release (rest-release s t (e .same) vs vt) (λ r. refl)
+    (λ r. record { same = release-same s t (e .same) vs vt; rows = e .rows; kept-rows = e .kept-rows })
 step-same s t e vs vt (offer o) =
-    both-by s t e vs vt (offer o) (rest-offer s t e vs vt o) (ap (λ ls. shown (granted (placed ls))) (taken-same s t e vs vt (updatesIn o)))
-    (offer-same s t e vs vt (updatesIn o))
-step-same s t e vs vt commit = both-by s t e vs vt commit (rest-commit s t e vs vt) refl (commit-leaves s t e vs vt)
-step-same s t e vs vt abandon = both-by s t e vs vt abandon (rest-abandon s t e vs vt) refl (abandon-leaves s t e vs vt)
-step-same s t e vs vt fresh = both-by s t e vs vt fresh refl refl (rebuilt-leaves s t e vs vt [])
-step-same s t e vs vt (rebuild rs) = both-by s t e vs vt (rebuild rs) (rest-rebuild s t e vs vt rs) refl (rebuilt-leaves s t e vs vt (rowsIn rs))
-step-same s t e vs vt (ask q) = both-by s t e vs vt (ask q) (ask-same s t e vs vt q) (reply-seen s t e vs vt q) e
+    both-by s t e vs vt (offer o) (rest-offer s t (e .same) vs vt o)
+    (λ r. ap (λ ls. shown (granted (placed ls))) (taken-same s t (e .same) vs vt (updatesIn o)))
+    (λ r. offer-alike s t e vs vt o (offer-same s t (e .same) vs vt (updatesIn o)) (offer-granted s o r))
+step-same s t e vs vt commit =
+    both-by s t e vs vt commit (rest-commit s t (e .same) vs vt) (λ r. refl) (λ r. commit-alike s t e vs vt (commit-leaves s t (e .same) vs vt))
+step-same s t e vs vt abandon =
+    both-by s t e vs vt abandon (rest-abandon s t (e .same) vs vt) (λ r. refl) (λ r. closed-alike (abandon-leaves s t (e .same) vs vt) (e .rows) refl)
+step-same s t e vs vt fresh = both-by s t e vs vt fresh refl (λ r. refl) (λ r. equal-alike (λ k. freshStore (e .same .ids k) (e .same .slots k)))
+step-same s t e vs vt (rebuild rs) =
+    both-by s t e vs vt (rebuild rs) (rest-rebuild s t (e .same) vs vt rs) (λ r. refl)
+    (λ r. equal-alike (λ k. withCarried (rebuilt (e .same .ids k) (e .same .slots k) (rowsIn rs)) (rebuiltColumn (e .same .ids k) rs)))
+step-same s t e vs vt (ask q) = both-by s t e vs vt (ask q) (ask-same s t (e .same) vs vt q) (reply-seen s t e vs vt q) (λ r. e)
 step-same s t e vs vt (truncation k d) =
-    both-by s t e vs vt (truncation k d) (slab-same s t e vs vt k d) refl (same-trans (same-sym (high-same s _)) (same-trans e (high-same t _)))
-step-same s t e vs vt (report k d) = (
-  report-seen s t e vs vt k d,
-  same-trans (same-sym (unseen-effect s (report k d) (high-same s _))) (same-trans e (unseen-effect t (report k d) (high-same t _))),
-)
+    both-by s t e vs vt (truncation k d) (slab-same s t (e .same) vs vt k d) (λ r. refl)
+    (λ r. record { same = same-trans (same-sym (high-same s _)) (same-trans (e .same) (high-same t _)); rows = e .rows; kept-rows = e .kept-rows })
+step-same s t e vs vt (report k d) = (report-seen s t (e .same) vs vt k d, report-alike s t e k d)
 
 -- two such stores answer every sequence of calls alike
-pub answers-same : (s t : Store) → Same s t → Inv s → Inv t → (later : List Call) → answers s later ≡ answers t later
+pub answers-same : (s t : Store) → Alike s t → Inv s → Inv t → (later : List Call) → answers s later ≡ answers t later
 answers-same s t e vs vt [] = refl
 answers-same s t e vs vt (c ∷ cs) =
     let q = step-same s t e vs vt c in

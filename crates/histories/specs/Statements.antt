@@ -12,6 +12,7 @@ use Rattle.refusal.specs.Outcomes.{granted, refused}
 use Rattle.refusal.specs.Refusals.{noneFree, nothingToCut}
 use Rattle.list_parts.specs.Lists.{elem}
 use Rattle.list_parts.specs.Parts.{part}
+use Rattle.carried.specs.Carried.{width, rowsAt}
 use Rattle.sizes.specs.Sizes.{slabFor}
 use Rattle.address.specs.Address.{unit, packing, slabs}
 use Rattle.marks.specs.Marks.{isFree, isTaken, countIf, tip}
@@ -149,20 +150,21 @@ pub data Distinct : List Row → Type 0 where
   none : Distinct []
   more : {r : Row} {rs : List Row} → elem (r .0) (idsOf rs) ≡ false → Distinct rs → Distinct (r ∷ rs)
 
--- the rows are the live ids, each once, in any order, with their locations
-pub record LiveRows (s : Store) (rs : List Row) : Type 0 where
+-- the rows are the live ids, each once, in any order, with their locations; and each has its id's bytes, these one row after the other
+pub record LiveRows (s : Store) (rs : List Row) (bytes : List ℕ) : Type 0 where
   pub once : Distinct rs
   pub only : (r : Row) → List·Memᴰ r rs → (heldId s (r .0) ≡ true) × (locationOf s (r .0) ≡ r .1)
   pub every : (i : ℕ) → heldId s i ≡ true → List·Memᴰ (i, locationOf s i) rs
+  pub carries : bytes ≡ rowsAt width (s .carried) (idsOf rs)
 
 -- (Rebuilt.rebuild-agrees) a rebuild from the live rows, in any memory of the same capacities, is granted, and no later answer differs
 abbrev pub RebuildAgrees : Type 0
 RebuildAgrees =
-    (n m : ℕ) (h : List Call) (rs : List Row) (memory : Store) →
-    capacities n m ≡ true → AtRest (state n m h) → LiveRows (state n m h) rs →
+    (n m : ℕ) (h : List Call) (rs : List Row) (bytes : List ℕ) (memory : Store) →
+    capacities n m ≡ true → AtRest (state n m h) → LiveRows (state n m h) rs bytes →
     memory .ids ≡ n → memory .slots ≡ m → sized memory ≡ true →
-    (refusal memory (rebuild (columns rs)) ≡ ok) ×
-    ((later : List Call) → answers (next memory (rebuild (columns rs))) later ≡ answers (state n m h) later)
+    (refusal memory (rebuild (columns rs bytes)) ≡ ok) ×
+    ((later : List Call) → answers (next memory (rebuild (columns rs bytes))) later ≡ answers (state n m h) later)
 
 -- a batch is open before each of these calls, and after the last
 abbrev pub StaysOpen : Store → List Call → Type 0
@@ -198,20 +200,23 @@ MemoryAgrees = (m : Memory) (cs : List Call) → answersIn m cs ≡ answers (rea
 
 abbrev pub RebuildAgreesLent : Type 0
 RebuildAgreesLent =
-    (n m : ℕ) (h : List Call) (rs : List Row) (memory : Memory) →
-    capacities n m ≡ true → AtRest (state n m h) → LiveRows (state n m h) rs →
+    (n m : ℕ) (h : List Call) (rs : List Row) (bytes : List ℕ) (memory : Memory) →
+    capacities n m ≡ true → AtRest (state n m h) → LiveRows (state n m h) rs bytes →
     memory .ids ≡ n → memory .slots ≡ m → fits everyTable memory ≡ true →
-    (refusal (read memory) (rebuild (columns rs)) ≡ ok) ×
-    ((later : List Call) → answersIn (memoryAfter memory (rebuild (columns rs))) later ≡ answers (state n m h) later)
+    (refusal (read memory) (rebuild (columns rs bytes)) ≡ ok) ×
+    ((later : List Call) → answersIn (memoryAfter memory (rebuild (columns rs bytes))) later ≡ answers (state n m h) later)
 
 -- (LiveRows.rows-exist) the rows that a rebuild wants can always be had
 abbrev pub RowsExist : Type 0
-RowsExist = (n m : ℕ) (h : List Call) → capacities n m ≡ true → AtRest (state n m h) → (rs : List Row) × LiveRows (state n m h) rs
+RowsExist = (n m : ℕ) (h : List Call) → capacities n m ≡ true → AtRest (state n m h)
+    → (rs : List Row) × (bytes : List ℕ) × LiveRows (state n m h) rs bytes
 
 -- (Examples.rebuild-met, Examples.abandon-met) some history meets each condition: one that stores and frees is at rest with two live rows, and
 -- there is a memory to rebuild in; one offers a batch, and between the offer and the abandon one call is granted and one refused
 abbrev pub RebuildMet : Type 0
-RebuildMet = (h : List Call) × (rs : List Row) × AtRest (state 9 4 h) × LiveRows (state 9 4 h) rs × (length rs ≡ 2) × (sized (freshStore 9 4) ≡ true)
+RebuildMet =
+    (h : List Call) × (rs : List Row) × (bytes : List ℕ) × AtRest (state 9 4 h) × LiveRows (state 9 4 h) rs bytes × (length rs ≡ 2) ×
+    (sized (freshStore 9 4) ≡ true)
 
 abbrev pub AbandonMet : Type 0
 AbandonMet =

@@ -2,7 +2,7 @@
 use mathlib.Core.Path.{_≡_, sym, ap, _∙_}
 use mathlib.Core.Bool.{Bool, true, false, not}
 use mathlib.Core.List.{[]}
-use Prim.Native.Nat.{_≤_, _<_}
+use Prim.Native.Nat.{_*_, _≤_, _<_}
 use native.Mathlib.Omega.{arith}
 use lib.ListN.{length}
 use borrow.Author.Tests.{not-false, ltb-false, eqb-true, leb-false}
@@ -10,6 +10,8 @@ use Rattle.refusal.specs.Refusals.{wrongShape}
 use Rattle.refusal.proofs.Tests.{and-true}
 use Rattle.address.specs.Address.{slabs}
 use Rattle.model.specs.Batches.{updates, updatesIn, room}
+use Rattle.carried.specs.Carried.{width}
+use Rattle.model.specs.Columns.{carriesFor}
 use Rattle.model.specs.Ids.{nextId}
 use Rattle.model.specs.Lending.{everyTable, lendingOf}
 use Rattle.model.specs.Lent.{fits}
@@ -68,6 +70,7 @@ pub record Offered (s : Store) (o : Offer) : Type 0 where
   pub stores : length (o .stores) ≡ length (o .ids)
   pub lengths : length (o .lengths) ≡ length (o .ids)
   pub answers : length (o .placed) ≡ length (o .ids)
+  pub carries : length (o .carried) ≡ length (o .ids) * width
   pub shut : s .batch .opened ≡ 0
   pub few : length (o .ids) ≤ mostUpdates
   pub fit : updates s [] 0 (updatesIn o) ≡ ok
@@ -77,7 +80,8 @@ pub offer-granted : (s : Store) (o : Offer) → refusal s (offer o) ≡ ok → O
 unfolding refusalOf
 offer-granted s o e =
     let e₁ = granted-rest s (offer o) e in
-    let c = and-true _ (asLong (o .ids) (o .placed)) (lists-ok _ (first-ok _ _ e₁)) in
+    let b = and-true _ (carriesFor (o .ids) (o .carried)) (lists-ok _ (first-ok _ _ e₁)) in
+    let c = and-true _ (asLong (o .ids) (o .placed)) (b .0) in
     let d = and-true (asLong (o .ids) (o .stores)) (asLong (o .ids) (o .lengths)) (c .0) in
     let e₂ = then-ok _ _ e₁ in
     let e₃ = then-ok _ _ e₂ in
@@ -87,6 +91,7 @@ offer-granted s o e =
       stores = eqb-true _ _ (d .0);
       lengths = eqb-true _ _ (d .1);
       answers = eqb-true _ _ (c .1);
+      carries = eqb-true _ _ (b .1);
       shut = shut-is s (test-ok _ _ _ (first-ok _ _ e₂));
       few = ltb-false mostUpdates (length (o .ids)) (test-ok _ _ _ (first-ok _ _ e₃));
       fit = first-ok _ _ e₄;

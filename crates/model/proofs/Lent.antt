@@ -9,19 +9,20 @@ use lib.ListN.{length, getD}
 use lib.Ieee.{Float}
 use Rattle.refusal.specs.Refusals.{wrongShape, tablesDisagree, noSuchId}
 use Rattle.address.specs.Address.{isLocation, packing, slabs}
+use Rattle.carried.specs.Carried.{width}
 use Rattle.fragmentation.specs.Cutoff.{cutoff}
 use Rattle.model.specs.Batches.{abandonRows}
 use Rattle.model.specs.Defrag.{movesIn, consIf, movable, movesFrom}
 use Rattle.model.specs.Lending.{Lending, ifLent, lendingOf}
 use Rattle.model.specs.Lent.{lent, joined, chosen, lengthsFit, fits}
-use Rattle.model.specs.Memory.{Memory, read, batchOf, memoryOf, batchWords, tallyWords}
+use Rattle.model.specs.Memory.{Memory, read, batchOf, memoryOf, carrying, batchWords, tallyWords}
 use Rattle.model.specs.MemoryAfter.{memoryEffect, memoryAfter}
 use Rattle.model.specs.Questions.{askRefusal, reply}
 use Rattle.model.specs.Step.{refusalOf, refusal, grant, answer, answerBy, unless}
-use Rattle.model.specs.Store.{Row, Store, withIdMarks, Batch, withBatch, Question, lookup, counters, defrag, moves}
+use Rattle.model.specs.Store.{Row, Store, withIdMarks, withCarried, Batch, withBatch, Question, lookup, counters, defrag, snapshotLength, snapshot, moves}
 use Rattle.model.specs.Store.{Call, newId, release, offer, commit, abandon, fresh, rebuild, ask, truncation, report}
-use Rattle.model.specs.Tables.{capacities, live, slabTip, badAt, kept, heldId, locationOf}
-use Rattle.model.specs.Tests.{shape, oneOpen}
+use Rattle.model.specs.Tables.{capacities, carriedBytes, live, slabTip, badAt, kept, heldId, locationOf}
+use Rattle.model.specs.Tests.{shape, lists, oneOpen}
 use Rattle.model.specs.Verdict.{test, _⨾_, ok, Verdict, refuse}
 use Rattle.model.proofs.Sizes.{shape-read}
 
@@ -31,18 +32,18 @@ abandonRows-caps s t p q i [] = refl
 abandonRows-caps s t p q i (r ∷ rs) = λ j.
     test (not (ltb 0 (r .0) && ltb (r .0) (p j) && (eqb (r .1) 0 || isLocation (q j) (r .1)))) tablesDisagree i ⨾ abandonRows-caps s t p q (suc i) rs j
 
--- a defrag list looks at no id's mark
-movesIn-marks : (s : Store) (t : List ℕ) (k j n : ℕ) → movesIn (withIdMarks s t) k j n ≡ movesIn s k j n
-movesIn-marks s t k j zero = refl
-movesIn-marks s t k j (suc n) =
+-- a defrag list looks at no id's mark, and not at what rows carry
+movesIn-marks : (s : Store) (t c : List ℕ) (k j n : ℕ) → movesIn (withCarried (withIdMarks s t) c) k j n ≡ movesIn s k j n
+movesIn-marks s t c k j zero = refl
+movesIn-marks s t c k j (suc n) =
     let o = getD (s .owners) (k * s .slots + j) 0 in
-    ap (consIf (movable s k j o) (o, packing k j)) (movesIn-marks s t k (suc j) n)
+    ap (consIf (movable s k j o) (o, packing k j)) (movesIn-marks s t c k (suc j) n)
 
-movesFrom-marks : (s : Store) (t : List ℕ) (r : Float) (n k : ℕ) → movesFrom (withIdMarks s t) r n k ≡ movesFrom s r n k
+movesFrom-marks : (s : Store) (t c : List ℕ) (r : Float) (n k : ℕ) → movesFrom (withCarried (withIdMarks s t) c) r n k ≡ movesFrom s r n k
 unfolding movesFrom
-movesFrom-marks s t r zero k = refl
-movesFrom-marks s t r (suc n) k = λ i.
-    movesIn-marks s t k (cutoff (live s k) (slabTip s k) r) (slabTip s k - cutoff (live s k) (slabTip s k) r) i ++ movesFrom-marks s t r n (suc k) i
+movesFrom-marks s t c r zero k = refl
+movesFrom-marks s t c r (suc n) k = λ i.
+    movesIn-marks s t c k (cutoff (live s k) (slabTip s k) r) (slabTip s k - cutoff (live s k) (slabTip s k) r) i ++ movesFrom-marks s t c r n (suc k) i
 
 -- a bad location by the four tables
 badAt-tables : (s : Store) (b : Batch) (i l : ℕ) → badAt (withBatch s b) i l ≡ badAt s i l
@@ -56,9 +57,10 @@ pick true x y = refl
 pick false x y = refl
 
 chosen-same : (l : Lending) (m b : Memory) → m ≡ chosen l (chosen l m b) m
-chosen-same l m b = λ i. memoryOf (m .ids) (m .slots) (pick (l .idMarks) (m .idMarks) (b .idMarks) i) (pick (l .locations) (m .locations) (b .locations) i)
+chosen-same l m b = λ i. carrying (memoryOf (m .ids) (m .slots) (pick (l .idMarks) (m .idMarks) (b .idMarks) i) (pick (l .locations) (m .locations) (b .locations) i)
     (pick (l .slotMarks) (m .slotMarks) (b .slotMarks) i) (pick (l .owners) (m .owners) (b .owners) i)
-    (pick (l .batch) (m .batch) (b .batch) i) (pick (l .tallies) (m .tallies) (b .tallies) i)
+    (pick (l .batch) (m .batch) (b .batch) i) (pick (l .tallies) (m .tallies) (b .tallies) i))
+    (pick (l .carried) (m .carried) (b .carried) i)
 
 joined-lent : (m : Memory) (c : Call) → m ≡ joined c (lent c m) m
 unfolding lent joined
@@ -69,7 +71,8 @@ unfolding lengthsFit
 lent-fits m l = λ i.
     capacities (m .ids) (m .slots) &&
     (asked (l .idMarks) (m .idMarks) (m .ids) i && asked (l .locations) (m .locations) (m .ids) i && asked (l .slotMarks) (m .slotMarks) (slabs * m .slots) i &&
-    asked (l .owners) (m .owners) (slabs * m .slots) i && asked (l .batch) (m .batch) batchWords i && asked (l .tallies) (m .tallies) tallyWords i)
+    asked (l .owners) (m .owners) (slabs * m .slots) i && asked (l .batch) (m .batch) batchWords i && asked (l .carried) (m .carried) (carriedBytes (m .ids)) i &&
+    asked (l .tallies) (m .tallies) tallyWords i)
   where
     asked : (b : Bool) (t : List ℕ) (n : ℕ) → ifLent b (eqb (length (cond b t [])) n) ≡ ifLent b (eqb (length t) n)
     asked true t n = refl
@@ -84,11 +87,13 @@ lent-shape m c = shape-read c (lent c m) ∙ ap (λ b. test (not b) wrongShape 0
 
 lent-ask : (m : Memory) (q : Question) → askRefusal (read (lent (ask q) m)) q ≡ askRefusal (read m) q
 unfolding lent askRefusal read
-lent-ask m (lookup i) = λ j.
-    test (not (heldId (read m) i) || eqb (locationOf (read m) i) 0) noSuchId 0 ⨾
+lent-ask m (lookup i row) = λ j.
+    lists (eqb (length row) width) ⨾ test (not (heldId (read m) i) || eqb (locationOf (read m) i) 0) noSuchId 0 ⨾
     test (badAt-tables (read m) (batchOf []) i (locationOf (read m) i) j) tablesDisagree 0
 lent-ask m counters = refl
 lent-ask m (defrag r is ls) = refl
+lent-ask m snapshotLength = refl
+lent-ask m (snapshot file) = refl
 
 lent-rest : (m : Memory) (c : Call) → refusalOf (read (lent c m)) c ≡ refusalOf (read m) c
 unfolding lent refusalOf read
@@ -109,9 +114,11 @@ lent-refusal m c = λ i. lent-shape m c i ⨾ lent-rest m c i
 
 lent-reply : (m : Memory) (q : Question) → reply (read (lent (ask q) m)) q ≡ reply (read m) q
 unfolding lent reply read
-lent-reply m (lookup i) = refl
+lent-reply m (lookup i row) = refl
 lent-reply m counters = refl
-lent-reply m (defrag r is ls) = ap moves (movesFrom-marks (read m) (read (lent (ask (defrag r is ls)) m) .idMarks) r slabs 0)
+lent-reply m (defrag r is ls) = ap moves (movesFrom-marks (read m) (read (lent (ask (defrag r is ls)) m) .idMarks) [] r slabs 0)
+lent-reply m snapshotLength = refl
+lent-reply m (snapshot file) = refl
 
 lent-grant : (m : Memory) (c : Call) → grant (read (lent c m)) c ≡ grant (read m) c
 unfolding lent grant read

@@ -20,3 +20,4 @@ pub mod ReadAbandon
 pub mod ReadRelease
 pub mod Read
 pub mod Lent
+pub mod Snapshots

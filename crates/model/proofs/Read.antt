@@ -1,6 +1,6 @@
 -- The law of the two levels: what is read from the memory after a call is the store after it, for every call and any contents. So whoever
 -- believes the store's rules and `read` need not look at hints and waiting words. Assumes nothing.
-use mathlib.Core.Path.{_≡_, refl, subst}
+use mathlib.Core.Path.{_≡_, refl, ap, subst}
 use mathlib.Core.Bool.{Bool, true}
 use mathlib.Core.List.{[]}
 use Prim.Native.Nat.{pred}
@@ -10,9 +10,10 @@ use Rattle.model.specs.Lent.{fits}
 use Rattle.model.specs.Memory.{Memory, read}
 use Rattle.model.specs.MemoryAfter.{slotsOf, memoryEffect, memoryAfter}
 use Rattle.model.specs.Rebuild.{rowsIn}
+use Rattle.model.specs.Columns.{offeredColumn, committedColumn, rebuiltColumn}
 use Rattle.model.specs.Step.{effect, refusal, next, unless}
-use Rattle.model.specs.Store.{Call, newId, release, offer, commit, abandon, fresh, rebuild, ask, truncation, report}
-use Rattle.model.specs.Tables.{slabTip}
+use Rattle.model.specs.Store.{withCarried, Call, newId, release, offer, commit, abandon, fresh, rebuild, ask, truncation, report}
+use Rattle.model.specs.Tables.{slabTip, kept}
 use Rattle.model.specs.Verdict.{ok, Verdict, refuse}
 use Rattle.model.proofs.Batches.{ids-updatesOf}
 use Rattle.model.proofs.Granted.{granted-fits, offer-granted}
@@ -43,12 +44,15 @@ read-effect m release e = read-release m (slots-fit (lendingOf release) m (grant
 read-effect m (offer o) e =
     let f = granted-fits m (offer o) e in
     let g = offer-granted (read m) o e in
-    read-offer m (o .ids) (updatesIn o) (slots-fit (lendingOf (offer o)) m f refl refl) (fits-batch (lendingOf (offer o)) m f) (g .few)
-    (ids-updatesOf (o .ids) (o .stores) (o .lengths) (g .stores) (g .lengths))
-read-effect m commit e = read-commit m (slots-fit (lendingOf commit) m (granted-fits m commit e) refl refl)
+    ap (λ s. withCarried s (offeredColumn (m .ids) o (m .carried)))
+    (read-offer m (o .ids) (updatesIn o) (slots-fit (lendingOf (offer o)) m f refl refl) (fits-batch (lendingOf (offer o)) m f) (g .few)
+    (ids-updatesOf (o .ids) (o .stores) (o .lengths) (g .stores) (g .lengths)))
+read-effect m commit e =
+    ap (λ s. withCarried s (committedColumn (m .ids) (kept (read m)) (m .carried)))
+    (read-commit m (slots-fit (lendingOf commit) m (granted-fits m commit e) refl refl))
 read-effect m abandon e = read-abandon m (slots-fit (lendingOf abandon) m (granted-fits m abandon e) refl refl)
 read-effect m fresh e = read-rebuilt (m .ids) (m .slots) []
-read-effect m (rebuild rs) e = read-rebuilt (m .ids) (m .slots) (rowsIn rs)
+read-effect m (rebuild rs) e = ap (λ s. withCarried s (rebuiltColumn (m .ids) rs)) (read-rebuilt (m .ids) (m .slots) (rowsIn rs))
 read-effect m (ask q) e = refl
 read-effect m (truncation k t) e = read-raise m k (slabTip (read m) k)
 read-effect m (report k t) e = high-words m k (pred (slabTip (read m) k))

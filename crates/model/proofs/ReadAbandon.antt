@@ -49,4 +49,4 @@ read-abandon m f =
     let ls = locationsOf (kept (read m)) in
     let q = give-all (m .slots) ls (slotsOf m) f in
     λ i. storeOf (m .ids) (m .slots) (counted (q .ids-hint i) (q .ids-waiting i) (m .idMarks)) (m .locations) (q .slots-read i) (m .owners)
-    (batch-shut (m .batch) i) (gave-tallies (m .slots) (slotsOf m) ls i)
+    (batch-shut (m .batch) i) (gave-tallies (m .slots) (slotsOf m) ls i) (m .carried)

@@ -55,10 +55,10 @@ pend-id m i lg = go (getWord g waitingWords 0) refl
         (set (map settle (m .idMarks)) i 2)) ∙ counted-first-pending h (m .idMarks) i ∙ λ q. set (counted h (sym e q) (m .idMarks)) i 2) j)
         (m .locations) (countedSlabs-words (m .slots) g (putWord g waitingWords 0 1) slabs 0 (m .slotMarks)
         (λ a b. (word-other g waitingWords 0 1 hintWords (suc a) (omega arith), word-other g waitingWords 0 1 waitingWords (suc a) (omega arith))) j)
-        (m .owners) (batchOf (m .batch)) (tallies-waiting g 0 1 (omega arith) j)
+        (m .owners) (batchOf (m .batch)) (tallies-waiting g 0 1 (omega arith) j) (m .carried)
     go (suc w) e = λ j. storeOf (m .ids) (m .slots)
         (((λ q. counted h (e q) (set (m .idMarks) i 2)) ∙ counted-pending h w (m .idMarks) i ∙ λ q. set (counted h (sym e q) (m .idMarks)) i 2) j)
-        (m .locations) (read m .slotMarks) (m .owners) (batchOf (m .batch)) (talliesOf g)
+        (m .locations) (read m .slotMarks) (m .owners) (batchOf (m .batch)) (talliesOf g) (m .carried)
 
 pend-id-fits : (m : Memory) (i : ℕ) → Fits (m .slots) (slotsOf m) → Fits (m .slots) (slotsOf (pendId m i))
 pend-id-fits m i f = record { low = f .low; high = f .high; marks-long = f .marks-long; words-long = go (getWord (m .tallies) waitingWords 0) ∙ f .words-long }
@@ -72,7 +72,7 @@ unfolding read
 pend-old m o f =
     let q = pend-one (m .slots) (slotsOf m) o f in
     λ i. storeOf (m .ids) (m .slots) (counted (q .ids-hint i) (q .ids-waiting i) (m .idMarks)) (m .locations) (q .slots-read i) (m .owners)
-    (batchOf (m .batch)) (pend-tallies (m .slots) (slotsOf m) o i)
+    (batchOf (m .batch)) (pend-tallies (m .slots) (slotsOf m) o i) (m .carried)
 
 -- ---- rows
 

@@ -19,7 +19,7 @@ use Rattle.model.specs.Memory.{Memory, read, getWord, wordAt, grantedWor
 use Rattle.model.specs.MemoryAfter.{newIdWords, memoryNewId, withWords, raiseWord, useSlots, memoryRebuilt}
 use Rattle.model.specs.Rebuild.{heldBy, rebuilt, locatedBy, ownedBy}
 use Rattle.model.specs.Store.{talliesFrom, Tallies, storeOf, Row, batchFrom}
-use Rattle.model.specs.Tables.{bump, useEach, writeAll, locationsOf}
+use Rattle.model.specs.Tables.{carriedBytes, bump, useEach, writeAll, locationsOf}
 use Rattle.model.specs.Truncation.{withHigh, raise}
 use Rattle.model.proofs.Slabs.{countedSlabs-words}
 use Rattle.model.proofs.Lists.{take-each, set-each, zeros}
@@ -69,6 +69,7 @@ unfolding read
 read-newId m lg =
     let more : ℕ = cond (isFree (getD (read m .idMarks) 0 0)) 2 1 in
     λ i. storeOf (m .ids) (m .slots) (ids-after m more lg i) (m .locations) (slots-after m more lg i) (m .owners) (batchOf (m .batch)) (tallies-after m more lg i)
+    (m .carried)
 
 -- ---- a high mark
 
@@ -82,7 +83,7 @@ high-words m k v =
     (counted (else hintWords 0 (omega arith) (omega arith) i) (else waitingWords 0 (omega arith) (omega arith) i) (m .idMarks)) (m .locations)
     (countedSlabs-words (m .slots) g (putWord g highWords k v) slabs 0 (m .slotMarks)
     (λ a b. (else hintWords (suc a) (omega arith) (omega arith), else waitingWords (suc a) (omega arith) (omega arith))) i) (m .owners)
-    (batchOf (m .batch)) (tallies-high g k v i)
+    (batchOf (m .batch)) (tallies-high g k v i) (m .carried)
 
 -- asking raises the high mark
 pub read-raise : (m : Memory) (k t : ℕ) → read (withWords m (raiseWord (m .tallies) k t)) ≡ withHigh (read m) (raise (read m .tallies .high) k t)
@@ -151,7 +152,7 @@ read-rebuilt n m rs = λ i. storeOf n m
     (plain-slabs m G slabs 0 (writeAll m (locationsOf rs) 1 (replicate (slabs * m) 0))
     (writeAll-each (λ x. x ≤ 1) m (locationsOf rs) 1 (replicate (slabs * m) 0) (le-refl 1) (λ p. rw (zeros (slabs * m) p) zero-le))
     (λ a b. (none hintWords (suc a) (omega arith) (omega arith) (omega arith), none waitingWords (suc a) (omega arith) (omega arith) (omega arith)))
-    i) (ownedBy m rs (replicate (slabs * m) 0)) (batchFrom 0 (replicate 256 0) (replicate 256 0)) (tall i)
+    i) (ownedBy m rs (replicate (slabs * m) 0)) (batchFrom 0 (replicate 256 0) (replicate 256 0)) (tall i) (replicate (carriedBytes n) 0)
   where
     g : List ℕ
     g = putWord (replicate 473 0) usedWords 0 (min 1 (length rs))

@@ -181,4 +181,4 @@ read-offer m is us f lb few e =
     let many : length ls ≡ length is = length-place (m .slots) (read m .slotMarks) us ∙ n in
     λ i. storeOf (m .ids) (m .slots) (counted (q .ids-hint i) (q .ids-waiting i) (m .idMarks)) (m .locations) (q .slots-read i) (m .owners)
     ((batch-kept (m .batch) is ls lb few many ∙ λ j. batchFrom (suc (n′ j)) (e′ j ++ drop (n′ j) (take 256 (drop 1 (m .batch))))
-    (ls ++ drop (n′ j) (drop 257 (m .batch)))) i) (took-tallies (m .slots) (slotsOf m) ls i)
+    (ls ++ drop (n′ j) (drop 257 (m .batch)))) i) (took-tallies (m .slots) (slotsOf m) ls i) (m .carried)

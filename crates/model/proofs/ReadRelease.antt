@@ -181,7 +181,7 @@ pub read-release : (m : Memory) → Fits (m .slots) (slotsOf m) → read (memory
 unfolding read
 read-release m f = λ i. storeOf (m .ids) cap
     (((λ j. counted (q .ids-hint j) (q .ids-waiting j) (releasedMarks (getWord g hintWords 0) (getWord g waitingWords 0) (m .idMarks))) ∙ released-read g 0
-    (m .idMarks) (omega arith) (f .words-long)) i) (m .locations) (slots-after i) (m .owners) (batchOf (m .batch)) (tallies-after i)
+    (m .idMarks) (omega arith) (f .words-long)) i) (m .locations) (slots-after i) (m .owners) (batchOf (m .batch)) (tallies-after i) (m .carried)
   where
     cap : ℕ
     cap = m .slots

@@ -22,7 +22,7 @@ use Rattle.model.specs.Lending.{Lending, everyTable, ifLent, lentFit, le
 use Rattle.model.specs.Lent.{lengthsFit, fits}
 use Rattle.model.specs.Memory.{Memory, read, getWord, hintWords, waitingWords, keptIdsAt, keptLocationsAt, batchWords, highWords, tallyWords}
 use Rattle.model.specs.Store.{Store, Call}
-use Rattle.model.specs.Tables.{mostUpdates, allocators, badIds, capacities, idMarksFit, locationsFit, slotMarksFit, ownersFit, batchFits, talliesFit, slabTip}
+use Rattle.model.specs.Tables.{mostUpdates, allocators, badIds, capacities, idMarksFit, locationsFit, slotMarksFit, ownersFit, batchFits, talliesFit, carriedBytes, carriedFits, slabTip}
 use Rattle.model.specs.Tests.{shape}
 use Rattle.model.specs.Truncation.{raise}
 use Rattle.model.specs.Verdict.{ok, test}
@@ -65,6 +65,7 @@ pub record Sizes (l : Lending) (s : Store) : Type 0 where
   pub freed : When (l .tallies) (length (s .tallies .freed) ≡ allocators)
   pub used : When (l .tallies) (length (s .tallies .used) ≡ allocators)
   pub high : When (l .tallies) (length (s .tallies .high) ≡ slabs)
+  pub carried : When (l .carried) (length (s .carried) ≡ carriedBytes (s .ids))
 
 -- the lists of a batch, and of the tallies
 batch-says : (s : Store) → batchFits s ≡ true → (length (s .batch .keptIds) ≡ mostUpdates) × (length (s .batch .keptLocations) ≡ mostUpdates)
@@ -92,7 +93,8 @@ pub sizes : (l : Lending) (s : Store) → capacities (s .ids) (s .slots) ≡ tru
 unfolding lentFit
 sizes l s c e =
     let t = and-true _ (ifLent (l .tallies) (talliesFit s)) e in
-    let b = and-true _ (ifLent (l .batch) (batchFits s)) (t .0) in
+    let k = and-true _ (ifLent (l .carried) (carriedFits s)) (t .0) in
+    let b = and-true _ (ifLent (l .batch) (batchFits s)) (k .0) in
     let o = and-true _ (ifLent (l .owners) (ownersFit s)) (b .0) in
     let m = and-true _ (ifLent (l .slotMarks) (slotMarksFit s)) (o .0) in
     let i = and-true (ifLent (l .idMarks) (idMarksFit s)) (ifLent (l .locations) (locationsFit s)) (m .0) in
@@ -109,13 +111,14 @@ sizes l s c e =
       freed = when (l .tallies) (talliesFit s) (t .1) (λ h. tallies-say s h .1);
       used = when (l .tallies) (talliesFit s) (t .1) (λ h. tallies-say s h .2);
       high = when (l .tallies) (talliesFit s) (t .1) (λ h. tallies-say s h .3);
+      carried = when (l .carried) (carriedFits s) (k .1) (λ h. eqb-true _ _ h);
     }
 
 pub sized-sizes : (s : Store) → sized s ≡ true → Sizes everyTable s
 unfolding sized
 sized-sizes s e = let a = and-true (capacities (s .ids) (s .slots)) (lentFit everyTable s) e in sizes everyTable s (a .0) (a .1)
 
--- ---- a store whose six tables fit refuses no call with 1 for its tables
+-- ---- a store whose seven tables fit refuses no call with 1 for its tables
 
 asked : (lent fit : Bool) → fit ≡ true → ifLent lent fit ≡ true
 asked true fit e = e
@@ -125,12 +128,13 @@ lentFit-any : (s : Store) → lentFit everyTable s ≡ true → (l : Lending) �
 unfolding lentFit
 lentFit-any s e l =
     let t = and-true _ (talliesFit s) e in
-    let b = and-true _ (batchFits s) (t .0) in
+    let k = and-true _ (carriedFits s) (t .0) in
+    let b = and-true _ (batchFits s) (k .0) in
     let o = and-true _ (ownersFit s) (b .0) in
     let m = and-true _ (slotMarksFit s) (o .0) in
     let i = and-true (idMarksFit s) (locationsFit s) (m .0) in
-    all (all (all (all (all (asked (l .idMarks) _ (i .0)) (asked (l .locations) _ (i .1))) (asked (l .slotMarks) _ (m .1))) (asked (l .owners) _ (o .1)))
-    (asked (l .batch) _ (b .1))) (asked (l .tallies) _ (t .1))
+    all (all (all (all (all (all (asked (l .idMarks) _ (i .0)) (asked (l .locations) _ (i .1))) (asked (l .slotMarks) _ (m .1))) (asked (l .owners) _ (o .1)))
+    (asked (l .batch) _ (b .1))) (asked (l .carried) _ (k .1))) (asked (l .tallies) _ (t .1))
 
 pub sized-shape : (s : Store) → sized s ≡ true → (c : Call) → shape s c ≡ ok
 unfolding sized test
@@ -185,13 +189,18 @@ module _ (m : Memory) where
       all (all (all (kind 0 (omega arith)) (kind 1 (omega arith))) (kind 2 (omega arith)))
       (eq-eqb _ _ (length-drop (highWords * allocators) (m .tallies) ∙ omega arith)))
 
+  carriedFits-read : carriedFits (read m) ≡ eqb (length (m .carried)) (carriedBytes (m .ids))
+  unfolding read
+  carriedFits-read = refl
+
 -- refusal 1 by lengths, whatever is lent
 pub fits-read : (l : Lending) (m : Memory) → (capacities (read m .ids) (read m .slots) && lentFit l (read m)) ≡ fits l m
 unfolding lentFit lengthsFit
 fits-read l m = λ i.
     caps-read m i &&
     (ifLent (l .idMarks) (idMarksFit-read m i) && ifLent (l .locations) (locationsFit-read m i) && ifLent (l .slotMarks) (slotMarksFit-read m i) &&
-    ifLent (l .owners) (ownersFit-read m i) && ifLent (l .batch) (batchFits-read m i) && ifLent (l .tallies) (talliesFit-read m i))
+    ifLent (l .owners) (ownersFit-read m i) && ifLent (l .batch) (batchFits-read m i) && ifLent (l .carried) (carriedFits-read m i) &&
+    ifLent (l .tallies) (talliesFit-read m i))
 
 pub shape-read : (c : Call) (m : Memory) → shape (read m) c ≡ test (not (fits (lendingOf c) m)) wrongShape 0
 shape-read c m = ap (λ b. test (not b) wrongShape 0) (fits-read (lendingOf c) m)
@@ -214,17 +223,19 @@ module _ (l : Lending) (m : Memory) (e : fits l m ≡ true) where
     owners : ifLent (l .owners) (eqb (length (m .owners)) (slabs * m .slots)) ≡ true
     batch : ifLent (l .batch) (eqb (length (m .batch)) batchWords) ≡ true
     tallies : ifLent (l .tallies) (eqb (length (m .tallies)) tallyWords) ≡ true
+    carried : ifLent (l .carried) (eqb (length (m .carried)) (carriedBytes (m .ids))) ≡ true
 
   tests : Tests
   unfolding lengthsFit
   tests =
       let a = and-true (capacities (m .ids) (m .slots)) _ e in
       let t = and-true _ (ifLent (l .tallies) _) (a .1) in
-      let b = and-true _ (ifLent (l .batch) _) (t .0) in
+      let k = and-true _ (ifLent (l .carried) _) (t .0) in
+      let b = and-true _ (ifLent (l .batch) _) (k .0) in
       let o = and-true _ (ifLent (l .owners) _) (b .0) in
       let s = and-true _ (ifLent (l .slotMarks) _) (o .0) in
       let i = and-true (ifLent (l .idMarks) _) (ifLent (l .locations) _) (s .0) in
-      record { caps = a .0; id-marks = i .0; locations = i .1; slot-marks = s .1; owners = o .1; batch = b .1; tallies = t .1 }
+      record { caps = a .0; id-marks = i .0; locations = i .1; slot-marks = s .1; owners = o .1; batch = b .1; tallies = t .1; carried = k .1 }
 
   pub fits-range : Ranges (m .ids) (m .slots)
   fits-range = capacities-range (m .ids) (m .slots) (tests .caps)
@@ -246,6 +257,9 @@ module _ (l : Lending) (m : Memory) (e : fits l m ≡ true) where
 
   pub fits-tallies : When (l .tallies) (length (m .tallies) ≡ tallyWords)
   fits-tallies = when (l .tallies) _ (tests .tallies) (λ h. eqb-true _ _ h)
+
+  pub fits-carried : When (l .carried) (length (m .carried) ≡ carriedBytes (m .ids))
+  fits-carried = when (l .carried) _ (tests .carried) (λ h. eqb-true _ _ h)
 
 -- ---- tips and high marks
 

@@ -11,7 +11,7 @@ use Rattle.refusal.specs.Outcomes.{Values, granted, refused}
 use Rattle.refusal.specs.Refusals.{noneFree}
 use Rattle.address.specs.Address.{packing}
 use Rattle.fragmentation.specs.Cutoff.{cutoff}
-use Rattle.model.specs.Store.{Store, Call, newId, release, offer, commit, rebuild, ask, lookup, counters, defrag, keep, cut, Grant, gave}
+use Rattle.model.specs.Store.{Store, Call, newId, release, offer, commit, rebuild, ask, lookup, counters, defrag, snapshotLength, keep, cut, Grant, gave, found}
 use Rattle.model.specs.Store.{placed, counts, moves, truncated, Answer}
 use Rattle.model.specs.Rebuild.{columns}
 use Rattle.model.specs.Truncation.{cutOf}
@@ -55,12 +55,19 @@ abbrev pub allHold : List Case → Bool
 allHold [] = true
 allHold (c ∷ cs) = same (c .given) (c .written) && allHold cs
 
--- a batch of Stores of three bytes; a batch of Frees
+-- a row that carries this collection, below 256, and rows that do
+abbrev pub collection : ℕ → List ℕ
+collection n = n ∷ replicate 7 0
+
+abbrev pub collections : List ℕ → List ℕ
+collections is = concat (map collection is)
+
+-- a batch of Stores of three bytes, each in the collection of its id's number; a batch of Frees
 abbrev pub stores : List ℕ → Call
-stores is = offer (record { ids = is; stores = map (λ (i : ℕ). true) is; lengths = map (λ (i : ℕ). 3) is; placed = is })
+stores is = offer (record { ids = is; stores = map (λ (i : ℕ). true) is; lengths = map (λ (i : ℕ). 3) is; carried = collections is; placed = is })
 
 abbrev pub frees : List ℕ → Call
-frees is = offer (record { ids = is; stores = map (λ (i : ℕ). false) is; lengths = is; placed = is })
+frees is = offer (record { ids = is; stores = map (λ (i : ℕ). false) is; lengths = is; carried = collections is; placed = is })
 
 abbrev pub threeQuarters : Float
 threeQuarters = fin false 3 (negsuc 1)
@@ -122,7 +129,9 @@ cases =
     -- the quotient is rounded before it is cut: 9 / r is 10, not 9 and a fraction, so that nothing is listed
     case (answer (state 11 10 nineOfTen) (defragOf aboveNineTenths 10)) (granted (moves [])) ∷
     -- a committed Store is found
-    case (answer afterWhole (ask (lookup 6))) (granted (gave (packing 0 5))) ∷
+    case (answer afterWhole (ask (lookup 6 (collection 0)))) (granted (found (packing 0 5) (collection 6))) ∷
+    -- and has a row in the snapshot, of which there are three: one block
+    case (answer afterWhole (ask snapshotLength)) (granted (gave 512)) ∷
     -- its counters: 0 was held with the first id, and five ids and slots were freed
     case (answer afterWhole (ask counters))
     (granted (counts (9 ∷ 8 ∷ replicate 77 0) (5 ∷ 5 ∷ replicate 77 0)
@@ -131,5 +140,5 @@ cases =
     case (answer (state 9 4 stored3) (stores (1 ∷ []))) (granted (placed (packing 0 3 ∷ []))) ∷
     case (answer (state 9 4 stored3) (stores (1 ∷ 3 ∷ []))) (refused noneFree 0) ∷
     -- after a rebuild 0 is free, and is not issued
-    case (answer (state 9 4 (rebuild (columns ((1, packing 0 0) ∷ (3, packing 0 1) ∷ [])) ∷ [])) newId) (granted (gave 2)) ∷
+    case (answer (state 9 4 (rebuild (columns ((1, packing 0 0) ∷ (3, packing 0 1) ∷ []) (collections (1 ∷ 3 ∷ []))) ∷ [])) newId) (granted (gave 2)) ∷
     []

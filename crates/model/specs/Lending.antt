@@ -1,9 +1,9 @@
 -- Which tables each call is lent: said here, and nowhere else. Refusal 1 asks just these for their lengths (`shape` in Step), and the memory of
 -- a call's contract takes just these (`lentTo` in Lent). Assumes nothing.
 use mathlib.Core.Bool.{Bool, true, false, _&&_}
-use Rattle.model.specs.Store.{Store, Question, lookup, counters, defrag, Call, newId, release, offer, commit, abandon, fresh, rebuild}
+use Rattle.model.specs.Store.{Store, Question, lookup, counters, defrag, snapshotLength, snapshot, Call, newId, release, offer, commit, abandon, fresh, rebuild}
 use Rattle.model.specs.Store.{ask, truncation, report}
-use Rattle.model.specs.Tables.{idMarksFit, locationsFit, slotMarksFit, ownersFit, batchFits, talliesFit, capacities}
+use Rattle.model.specs.Tables.{idMarksFit, locationsFit, slotMarksFit, ownersFit, batchFits, talliesFit, carriedFits, capacities}
 
 pub record Lending : Type 0 where
   pub idMarks : Bool
@@ -12,36 +12,47 @@ pub record Lending : Type 0 where
   pub owners : Bool
   pub batch : Bool
   pub tallies : Bool
+  pub carried : Bool
 
-abbrev pub lends : Bool → Bool → Bool → Bool → Bool → Bool → Lending
-lends i l s o b t = record { idMarks = i; locations = l; slotMarks = s; owners = o; batch = b; tallies = t }
+abbrev pub lends : Bool → Bool → Bool → Bool → Bool → Bool → Bool → Lending
+lends i l s o b t c = record { idMarks = i; locations = l; slotMarks = s; owners = o; batch = b; tallies = t; carried = c }
 
 -- the sets, by what their calls are after
 abbrev pub everyTable : Lending
-everyTable = lends true true true true true true
+everyTable = lends true true true true true true true
 
 abbrev pub idTables : Lending
-idTables = lends true false false false true true
+idTables = lends true false false false true true false
 
 abbrev pub markTables : Lending
-markTables = lends true false true false true true
+markTables = lends true false true false true true false
 
 abbrev pub slabTables : Lending
-slabTables = lends false false true false true true
+slabTables = lends false false true false true true false
 
+-- what the tests of an offer's updates look at
 abbrev pub placeTables : Lending
-placeTables = lends true true true true false true
+placeTables = lends true true true true false true false
+
+-- and what a lookup does
+abbrev pub rowTables : Lending
+rowTables = lends true true true true false true true
 
 abbrev pub moveTables : Lending
-moveTables = lends false true true true true true
+moveTables = lends false true true true true true false
+
+abbrev pub storedTables : Lending
+storedTables = lends true true false false true true false
 
 abbrev pub talliesAlone : Lending
-talliesAlone = lends false false false false false true
+talliesAlone = lends false false false false false true false
 
 abbrev pub lentToAsk : Question → Lending
-lentToAsk (lookup i) = placeTables
+lentToAsk (lookup i row) = rowTables
 lentToAsk counters = talliesAlone
 lentToAsk (defrag r is ls) = moveTables
+lentToAsk snapshotLength = storedTables
+lentToAsk (snapshot file) = everyTable
 
 abbrev pub lendingOf : Call → Lending
 lendingOf newId = idTables
@@ -66,8 +77,9 @@ ifLent false fit = true
 unfoldable pub lentFit : Lending → Store → Bool
 lentFit l s =
     ifLent (l .idMarks) (idMarksFit s) && ifLent (l .locations) (locationsFit s) && ifLent (l .slotMarks) (slotMarksFit s) &&
-    ifLent (l .owners) (ownersFit s) && ifLent (l .batch) (batchFits s) && ifLent (l .tallies) (talliesFit s)
+    ifLent (l .owners) (ownersFit s) && ifLent (l .batch) (batchFits s) && ifLent (l .carried) (carriedFits s) &&
+    ifLent (l .tallies) (talliesFit s)
 
--- a store whose capacities are good and whose six tables have their lengths
+-- a store whose capacities are good and whose seven tables have their lengths
 unfoldable pub sized : Store → Bool
 sized s = capacities (s .ids) (s .slots) && lentFit everyTable s

@@ -7,10 +7,10 @@ use lib.Dec.{eqb}
 use lib.ListN.{length}
 use Rattle.address.specs.Address.{slabs}
 use Rattle.model.specs.Store.{Call, Answer}
-use Rattle.model.specs.Tables.{capacities}
+use Rattle.model.specs.Tables.{capacities, carriedBytes}
 use Rattle.model.specs.Lending.{Lending, ifLent, lendingOf}
 use Rattle.model.specs.Step.{answer}
-use Rattle.model.specs.Memory.{batchWords, tallyWords, Memory, memoryOf, read}
+use Rattle.model.specs.Memory.{batchWords, tallyWords, Memory, memoryOf, carrying, read}
 use Rattle.model.specs.MemoryAfter.{memoryAfter}
 
 -- ---- what a call takes: its capacities, then each table that it is lent, in their order
@@ -27,39 +27,41 @@ taking none false f = f none
 -- of type T for each table, and of type A with all of them
 abbrev pub Taken : Type 0 → Lending → Type 0 → Type 0
 Taken T l A =
-    Taking T (l .idMarks) (Taking T (l .locations) (Taking T (l .slotMarks) (Taking T (l .owners) (Taking T (l .batch) (Taking T (l .tallies) A)))))
+    Taking T (l .idMarks) (Taking T (l .locations) (Taking T (l .slotMarks) (Taking T (l .owners) (Taking T (l .batch)
+    (Taking T (l .tallies) (Taking T (l .carried) A))))))
 
-abbrev pub taken : {T A : Type 0} → T → (l : Lending) → (T → T → T → T → T → T → A) → Taken T l A
+abbrev pub taken : {T A : Type 0} → T → (l : Lending) → (T → T → T → T → T → T → T → A) → Taken T l A
 taken none l f =
     taking none (l .idMarks) (λ im. taking none (l .locations) (λ lo. taking none (l .slotMarks) (λ sm.
-    taking none (l .owners) (λ ow. taking none (l .batch) (λ b. taking none (l .tallies) (λ g. f im lo sm ow b g))))))
+    taking none (l .owners) (λ ow. taking none (l .batch) (λ b. taking none (l .tallies) (λ g. taking none (l .carried) (λ c. f im lo sm ow b g c)))))))
 
 -- the memory of the tables that a call is lent; the others are []
 abbrev pub lentBy : (l : Lending) → ℕ → ℕ → Taken (List ℕ) l Memory
-lentBy l n m = taken [] l (memoryOf n m)
+lentBy l n m = taken [] l (λ im lo sm ow b g c. carrying (memoryOf n m im lo sm ow b g) c)
 
 abbrev pub lentTo : (c : Call) → ℕ → ℕ → Taken (List ℕ) (lendingOf c) Memory
 lentTo c n m = lentBy (lendingOf c) n m
 
 -- what the call answers on them, and what they hold after it
 abbrev pub answered : (c : Call) → ℕ → ℕ → Taken (List ℕ) (lendingOf c) Answer
-answered c n m = taken [] (lendingOf c) (λ im lo sm ow b g. answer (read (memoryOf n m im lo sm ow b g)) c)
+answered c n m = taken [] (lendingOf c) (λ im lo sm ow b g t. answer (read (carrying (memoryOf n m im lo sm ow b g) t)) c)
 
 abbrev pub leaves : (c : Call) → ℕ → ℕ → Taken (List ℕ) (lendingOf c) Memory
-leaves c n m = taken [] (lendingOf c) (λ im lo sm ow b g. memoryAfter (memoryOf n m im lo sm ow b g) c)
+leaves c n m = taken [] (lendingOf c) (λ im lo sm ow b g t. memoryAfter (carrying (memoryOf n m im lo sm ow b g) t) c)
 
 -- ---- refusal 1 in lengths: capacities, then the length of each table, of which only those that are lent are looked at
 
-unfoldable pub lengthsFit : Lending → ℕ → ℕ → ℕ → ℕ → ℕ → ℕ → ℕ → ℕ → Bool
-lengthsFit l n m im lo sm ow b g =
+unfoldable pub lengthsFit : Lending → ℕ → ℕ → ℕ → ℕ → ℕ → ℕ → ℕ → ℕ → ℕ → Bool
+lengthsFit l n m im lo sm ow b g c =
     capacities n m &&
     (ifLent (l .idMarks) (eqb im n) && ifLent (l .locations) (eqb lo n) && ifLent (l .slotMarks) (eqb sm (slabs * m)) &&
-    ifLent (l .owners) (eqb ow (slabs * m)) && ifLent (l .batch) (eqb b batchWords) && ifLent (l .tallies) (eqb g tallyWords))
+    ifLent (l .owners) (eqb ow (slabs * m)) && ifLent (l .batch) (eqb b batchWords) && ifLent (l .carried) (eqb c (carriedBytes n)) &&
+    ifLent (l .tallies) (eqb g tallyWords))
 
 abbrev pub fits : Lending → Memory → Bool
 fits l m =
     lengthsFit l (m .ids) (m .slots) (length (m .idMarks)) (length (m .locations)) (length (m .slotMarks)) (length (m .owners))
-    (length (m .batch)) (length (m .tallies))
+    (length (m .batch)) (length (m .tallies)) (length (m .carried))
 
 -- by the lengths of the lent tables alone
 abbrev pub fitsBy : (l : Lending) → ℕ → ℕ → Taken ℕ l Bool
@@ -78,6 +80,7 @@ chosen l a b = record {
   owners = cond (l .owners) (a .owners) (b .owners);
   batch = cond (l .batch) (a .batch) (b .batch);
   tallies = cond (l .tallies) (a .tallies) (b .tallies);
+  carried = cond (l .carried) (a .carried) (b .carried);
 }
 
 -- [] for each table that the call is not lent

@@ -8,6 +8,8 @@ pub mod Batches
 pub mod Rebuild
 pub mod Defrag
 pub mod Truncation
+pub mod Columns
+pub mod Snapshots
 pub mod Questions
 pub mod Step
 pub mod Outcomes

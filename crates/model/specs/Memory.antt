@@ -1,5 +1,5 @@
--- The six tables as they are lent, for any contents, and the store that they stand for: `read`. Assumes nothing.
-use mathlib.Core.List.{List, _++_}
+-- The seven tables as they are lent, for any contents, and the store that they stand for: `read`. Assumes nothing.
+use mathlib.Core.List.{List, [], _++_}
 use Prim.Native.Nat.{ℕ, zero, suc, _+_, _*_}
 use lib.ListN.{getD, set, take, drop}
 use Rattle.list_parts.specs.Parts.{part}
@@ -13,6 +13,7 @@ use Rattle.model.specs.Tables.{mostUpdates, allocators}
 --   slot marks, owners      one for each slot, slab by slab
 --   batch                   the opened word; 256 ids; 256 new locations
 --   tallies                 79 each of granted, freed, used, hint and waiting (the ids' allocator, then the slabs'); 78 high marks
+--   carried                 what rows carry: a row for each id, then one for each of 256 kept updates
 -- A table that a call is not lent is [].
 pub record Memory : Type 0 where
   pub ids : ℕ
@@ -23,9 +24,25 @@ pub record Memory : Type 0 where
   pub owners : List ℕ
   pub batch : List ℕ
   pub tallies : List ℕ
+  pub carried : List ℕ
 
+-- without what rows carry, which few calls are lent
 abbrev pub memoryOf : ℕ → ℕ → List ℕ → List ℕ → List ℕ → List ℕ → List ℕ → List ℕ → Memory
-memoryOf n m im lo sm ow b g = record { ids = n; slots = m; idMarks = im; locations = lo; slotMarks = sm; owners = ow; batch = b; tallies = g }
+memoryOf n m im lo sm ow b g = record { ids = n; slots = m; idMarks = im; locations = lo; slotMarks = sm; owners = ow; batch = b; tallies = g; carried = [] }
+
+-- with it
+abbrev pub carrying : Memory → List ℕ → Memory
+carrying m c = record {
+  ids = m .ids;
+  slots = m .slots;
+  idMarks = m .idMarks;
+  locations = m .locations;
+  slotMarks = m .slotMarks;
+  owners = m .owners;
+  batch = m .batch;
+  tallies = m .tallies;
+  carried = c;
+}
 
 -- ---- the words of the batch
 
@@ -104,4 +121,5 @@ read m = record {
   owners = m .owners;
   batch = batchOf (m .batch);
   tallies = talliesOf (m .tallies);
+  carried = m .carried;
 }

@@ -11,24 +11,25 @@ use Rattle.marks.specs.Marks.{isFree, isPending, countIf, hold, letGo}
 use Rattle.id_allocator.specs.Counted.{settle, hinted}
 use Rattle.id_allocator.specs.Written.{givenBack, hintBack}
 use Rattle.model.specs.Store.{Row, Call, newId, release, offer, commit, abandon, fresh, rebuild, ask, truncation, report}
-use Rattle.model.specs.Tables.{write, writeAll, slabTip, locationsOf, kept, bump}
+use Rattle.model.specs.Tables.{carriedBytes, write, writeAll, slabTip, locationsOf, kept, bump}
 use Rattle.model.specs.Ids.{nextId}
 use Rattle.model.specs.Batches.{updatesIn, takenBy}
 use Rattle.model.specs.Rebuild.{rowsIn, heldBy, locatedBy, ownedBy}
+use Rattle.model.specs.Columns.{offeredColumn, committedColumn, rebuiltColumn}
 use Rattle.model.specs.Step.{refusal, unless}
-use Rattle.model.specs.Memory.{Memory, memoryOf, keptIdsAt, keptLocationsAt, batchWords, tallyWords, grantedWords, freedWords}
+use Rattle.model.specs.Memory.{Memory, memoryOf, carrying, keptIdsAt, keptLocationsAt, batchWords, tallyWords, grantedWords, freedWords}
 use Rattle.model.specs.Memory.{usedWords, hintWords, waitingWords, highWords, wordAt, getWord, putWord, read}
 
 -- ---- one table changed
 
 abbrev pub withIds : Memory → List ℕ → List ℕ → Memory
-withIds m t g = memoryOf (m .ids) (m .slots) t (m .locations) (m .slotMarks) (m .owners) (m .batch) g
+withIds m t g = carrying (memoryOf (m .ids) (m .slots) t (m .locations) (m .slotMarks) (m .owners) (m .batch) g) (m .carried)
 
 abbrev pub withOwned : Memory → List ℕ → List ℕ → Memory
-withOwned m l o = memoryOf (m .ids) (m .slots) (m .idMarks) l (m .slotMarks) o (m .batch) (m .tallies)
+withOwned m l o = carrying (memoryOf (m .ids) (m .slots) (m .idMarks) l (m .slotMarks) o (m .batch) (m .tallies)) (m .carried)
 
 abbrev pub withKept : Memory → List ℕ → Memory
-withKept m b = memoryOf (m .ids) (m .slots) (m .idMarks) (m .locations) (m .slotMarks) (m .owners) b (m .tallies)
+withKept m b = carrying (memoryOf (m .ids) (m .slots) (m .idMarks) (m .locations) (m .slotMarks) (m .owners) b (m .tallies)) (m .carried)
 
 -- the slots' marks and the words, which change together
 pub record Slots : Type 0 where
@@ -39,7 +40,7 @@ abbrev pub slotsOf : Memory → Slots
 slotsOf m = record { marks = m .slotMarks; words = m .tallies }
 
 abbrev pub withSlots : Memory → Slots → Memory
-withSlots m s = memoryOf (m .ids) (m .slots) (m .idMarks) (m .locations) (s .marks) (m .owners) (m .batch) (s .words)
+withSlots m s = carrying (memoryOf (m .ids) (m .slots) (m .idMarks) (m .locations) (s .marks) (m .owners) (m .batch) (s .words)) (m .carried)
 
 -- ---- new id: the mark is written, and the hint moves past it
 
@@ -185,6 +186,7 @@ memoryRebuilt n m rs = record {
   owners = ownedBy m rs (replicate (slabs * m) 0);
   batch = replicate batchWords 0;
   tallies = useSlots m (putWord (replicate tallyWords 0) usedWords 0 (min 1 (length rs))) (locationsOf rs);
+  carried = replicate (carriedBytes n) 0;
 }
 
 -- ---- truncation and cut report: a high mark
@@ -201,11 +203,11 @@ withWords m g = withIds m (m .idMarks) g
 unfoldable pub memoryEffect : Memory → Call → Memory
 memoryEffect m newId = memoryNewId m
 memoryEffect m release = memoryRelease m
-memoryEffect m (offer o) = memoryOffer m (o .ids) (takenBy (read m) (updatesIn o))
-memoryEffect m commit = memoryCommit m
+memoryEffect m (offer o) = carrying (memoryOffer m (o .ids) (takenBy (read m) (updatesIn o))) (offeredColumn (m .ids) o (m .carried))
+memoryEffect m commit = carrying (memoryCommit m) (committedColumn (m .ids) (kept (read m)) (m .carried))
 memoryEffect m abandon = memoryAbandon m
 memoryEffect m fresh = memoryRebuilt (m .ids) (m .slots) []
-memoryEffect m (rebuild rs) = memoryRebuilt (m .ids) (m .slots) (rowsIn rs)
+memoryEffect m (rebuild rs) = carrying (memoryRebuilt (m .ids) (m .slots) (rowsIn rs)) (rebuiltColumn (m .ids) rs)
 memoryEffect m (ask q) = m
 memoryEffect m (truncation k t) = withWords m (raiseWord (m .tallies) k (slabTip (read m) k))
 memoryEffect m (report k t) = withWords m (putWord (m .tallies) highWords k (pred (slabTip (read m) k)))

@@ -3,7 +3,7 @@ use mathlib.Core.List.{List, [], _∷_, _++_}
 use Prim.Native.Nat.{ℕ, zero, suc}
 use lib.ListN.{length, drop}
 use Rattle.refusal.specs.Outcomes.{Values, granted, refused}
-use Rattle.model.specs.Store.{Sums, Cut, keep, cut, Grant, done, gave, placed, counts, moves, truncated, Answer}
+use Rattle.model.specs.Store.{Sums, Cut, keep, cut, Grant, done, gave, found, placed, counts, moves, wrote, truncated, Answer}
 use Rattle.model.specs.Tables.{idsOf, locationsOf}
 
 abbrev pub sumValues : Sums → List ℕ
@@ -17,19 +17,23 @@ cutValues (cut n b) = 1 ∷ n ∷ b ∷ []
 abbrev pub valuesOf : Grant → List ℕ
 valuesOf done = []
 valuesOf (gave n) = n ∷ []
+valuesOf (found l c) = l ∷ []
 valuesOf (placed ls) = []
 valuesOf (counts g f z) = sumValues z
 -- how many there are
 valuesOf (moves ms) = length ms ∷ []
+valuesOf (wrote bytes) = []
 valuesOf (truncated c) = cutValues c
 
 -- the rows of each list that is lent for the answer
 abbrev pub listsOf : Grant → List (List ℕ)
 listsOf done = []
 listsOf (gave n) = []
+listsOf (found l c) = c ∷ []
 listsOf (placed ls) = ls ∷ []
 listsOf (counts g f z) = g ∷ f ∷ []
 listsOf (moves ms) = idsOf ms ∷ locationsOf ms ∷ []
+listsOf (wrote bytes) = bytes ∷ []
 listsOf (truncated c) = []
 
 abbrev pub outcomeOf : Answer → Values

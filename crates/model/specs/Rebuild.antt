@@ -8,7 +8,7 @@ use Rattle.list_parts.specs.Lists.{elem}
 use Rattle.address.specs.Address.{isLocation, slabs}
 use Rattle.model.specs.Store.{Store, Row, Rows}
 use Rattle.model.specs.Verdict.{Verdict, ok, _⨾_, test}
-use Rattle.model.specs.Tables.{mostUpdates, allocators, write, writeAll, inIds, pairs, idsOf, locationsOf, useEach}
+use Rattle.model.specs.Tables.{mostUpdates, allocators, carriedBytes, write, writeAll, inIds, pairs, idsOf, locationsOf, useEach}
 
 -- the rows of two lists
 abbrev pub rowsOf : List ℕ → List ℕ → List Row
@@ -17,9 +17,9 @@ rowsOf is ls = pairs (length is) is ls
 abbrev pub rowsIn : Rows → List Row
 rowsIn rs = rowsOf (rs .ids) (rs .locations)
 
--- and the lists of rows
-abbrev pub columns : List Row → Rows
-columns rs = record { ids = idsOf rs; locations = locationsOf rs }
+-- and the lists of rows, with what they carry
+abbrev pub columns : List Row → List ℕ → Rows
+columns rs bytes = record { ids = idsOf rs; locations = locationsOf rs; carried = bytes }
 
 -- per row: `is` and `ls` are the ids and locations of those before it, i is its index
 abbrev pub rows : Store → List ℕ → List ℕ → ℕ → List Row → Verdict
@@ -41,7 +41,7 @@ abbrev pub ownedBy : ℕ → List Row → List ℕ → List ℕ
 ownedBy cap [] t = t
 ownedBy cap (r ∷ rs) t = ownedBy cap rs (write cap (r .1) (r .0) t)
 
--- a store with these capacities whose rows are held, and nothing else; counters and high marks are 0, and no batch is open
+-- a store with these capacities whose rows are held, and nothing else; counters and high marks are 0, no batch is open, and the rows carry zeros
 abbrev pub rebuilt : ℕ → ℕ → List Row → Store
 rebuilt n m rs = record {
   ids = n;
@@ -57,6 +57,7 @@ rebuilt n m rs = record {
     used = useEach m (set (replicate allocators 0) 0 (min 1 (length rs))) (locationsOf rs);
     high = replicate slabs 0;
   };
+  carried = replicate (carriedBytes n) 0;
 }
 
 abbrev pub freshStore : ℕ → ℕ → Store

@@ -8,7 +8,7 @@ use lib.ListN.{length, set}
 use Rattle.refusal.specs.Outcomes.{granted, refused}
 use Rattle.refusal.specs.Refusals.{outOfRange, noneFree, ratioOutOfRange, tooMany, nothingToCut}
 use Rattle.address.specs.Address.{slabs}
-use Rattle.model.specs.Store.{Store, Call, newId, release, offer, commit, abandon, fresh, rebuild, ask, truncation, report, Grant}
+use Rattle.model.specs.Store.{Store, withCarried, Call, newId, release, offer, commit, abandon, fresh, rebuild, ask, truncation, report, Grant}
 use Rattle.model.specs.Store.{done, gave, placed, truncated, Answer}
 use Rattle.model.specs.Verdict.{Verdict, ok, refuse, _⨾_, test}
 use Rattle.model.specs.Tables.{mostUpdates, slabTip, kept}
@@ -17,6 +17,7 @@ use Rattle.model.specs.Ids.{nextId, afterNewId, afterRelease}
 use Rattle.model.specs.Batches.{updatesIn, updates, room, takenBy, afterOffer, commitRows, afterCommit, abandonRows, afterAbandon}
 use Rattle.model.specs.Rebuild.{rowsIn, rows, rebuilt, freshStore}
 use Rattle.model.specs.Truncation.{isTarget, highMark, cutAt, keeps, raise, withHigh}
+use Rattle.model.specs.Columns.{carriesFor, offeredColumn, committedColumn, rebuiltColumn}
 use Rattle.model.specs.Questions.{askRefusal, reply}
 
 -- ---- refusals
@@ -29,12 +30,12 @@ unfoldable pub refusalOf : Store → Call → Verdict
 refusalOf s newId = noneOpen s ⨾ test (leb (s .ids) (nextId s)) noneFree 0
 refusalOf s release = noneOpen s
 refusalOf s (offer o) =
-    lists (asLong (o .ids) (o .stores) && asLong (o .ids) (o .lengths) && asLong (o .ids) (o .placed)) ⨾ noneOpen s ⨾
+    lists (asLong (o .ids) (o .stores) && asLong (o .ids) (o .lengths) && asLong (o .ids) (o .placed) && carriesFor (o .ids) (o .carried)) ⨾ noneOpen s ⨾
     test (ltb mostUpdates (length (o .ids))) tooMany 0 ⨾ updates s [] 0 (updatesIn o) ⨾ room (s .slots) (s .slotMarks) (updatesIn o) slabs 0
 refusalOf s commit = oneOpen s ⨾ commitRows s 0 (kept s)
 refusalOf s abandon = oneOpen s ⨾ abandonRows s 0 (kept s)
 refusalOf s fresh = ok
-refusalOf s (rebuild rs) = lists (asLong (rs .ids) (rs .locations)) ⨾ rows s [] [] 0 (rowsIn rs)
+refusalOf s (rebuild rs) = lists (asLong (rs .ids) (rs .locations) && carriesFor (rs .ids) (rs .carried)) ⨾ rows s [] [] 0 (rowsIn rs)
 refusalOf s (ask q) = askRefusal s q
 refusalOf s (truncation k t) = slabRefusal s k t
 refusalOf s (report k t) = slabRefusal s k t ⨾ test (keeps (cutAt k (highMark s k) t (slabTip s k))) nothingToCut 0
@@ -61,11 +62,11 @@ grant s (report k t) = done
 unfoldable pub effect : Store → Call → Store
 effect s newId = afterNewId s
 effect s release = afterRelease s
-effect s (offer o) = afterOffer s (updatesIn o)
-effect s commit = afterCommit s
+effect s (offer o) = withCarried (afterOffer s (updatesIn o)) (offeredColumn (s .ids) o (s .carried))
+effect s commit = withCarried (afterCommit s) (committedColumn (s .ids) (kept s) (s .carried))
 effect s abandon = afterAbandon s
 effect s fresh = freshStore (s .ids) (s .slots)
-effect s (rebuild rs) = rebuilt (s .ids) (s .slots) (rowsIn rs)
+effect s (rebuild rs) = withCarried (rebuilt (s .ids) (s .slots) (rowsIn rs)) (rebuiltColumn (s .ids) rs)
 effect s (ask q) = s
 effect s (truncation k t) = withHigh s (raise (s .tallies .high) k (slabTip s k))
 effect s (report k t) = withHigh s (set (s .tallies .high) k (pred (slabTip s k)))

@@ -25,7 +25,7 @@ pub record Tallies : Type 0 where
   pub high : List ℕ
 
 -- A capacity of ids, one of slots in each slab, and the tables. Marks: 0 free, 2 pending, any other number held.
--- Slab k's slot j stands at k × slots + j.
+-- Slab k's slot j stands at k × slots + j. What rows carry stands in one column (crate carried): a row for each id, then one for each kept update.
 pub record Store : Type 0 where
   pub ids : ℕ
   pub slots : ℕ
@@ -35,6 +35,7 @@ pub record Store : Type 0 where
   pub owners : List ℕ
   pub batch : Batch
   pub tallies : Tallies
+  pub carried : List ℕ
 
 -- ---- made of its parts, and with one table changed
 
@@ -44,26 +45,29 @@ batchFrom n is ls = record { opened = n; keptIds = is; keptLocations = ls }
 abbrev pub talliesFrom : List ℕ → List ℕ → List ℕ → List ℕ → Tallies
 talliesFrom g f u h = record { granted = g; freed = f; used = u; high = h }
 
-abbrev pub storeOf : ℕ → ℕ → List ℕ → List ℕ → List ℕ → List ℕ → Batch → Tallies → Store
-storeOf n m im lo sm ow b t = record { ids = n; slots = m; idMarks = im; locations = lo; slotMarks = sm; owners = ow; batch = b; tallies = t }
+abbrev pub storeOf : ℕ → ℕ → List ℕ → List ℕ → List ℕ → List ℕ → Batch → Tallies → List ℕ → Store
+storeOf n m im lo sm ow b t c = record { ids = n; slots = m; idMarks = im; locations = lo; slotMarks = sm; owners = ow; batch = b; tallies = t; carried = c }
 
 abbrev pub withIdMarks : Store → List ℕ → Store
-withIdMarks s t = storeOf (s .ids) (s .slots) t (s .locations) (s .slotMarks) (s .owners) (s .batch) (s .tallies)
+withIdMarks s t = storeOf (s .ids) (s .slots) t (s .locations) (s .slotMarks) (s .owners) (s .batch) (s .tallies) (s .carried)
 
 abbrev pub withLocations : Store → List ℕ → Store
-withLocations s t = storeOf (s .ids) (s .slots) (s .idMarks) t (s .slotMarks) (s .owners) (s .batch) (s .tallies)
+withLocations s t = storeOf (s .ids) (s .slots) (s .idMarks) t (s .slotMarks) (s .owners) (s .batch) (s .tallies) (s .carried)
 
 abbrev pub withSlotMarks : Store → List ℕ → Store
-withSlotMarks s t = storeOf (s .ids) (s .slots) (s .idMarks) (s .locations) t (s .owners) (s .batch) (s .tallies)
+withSlotMarks s t = storeOf (s .ids) (s .slots) (s .idMarks) (s .locations) t (s .owners) (s .batch) (s .tallies) (s .carried)
 
 abbrev pub withOwners : Store → List ℕ → Store
-withOwners s t = storeOf (s .ids) (s .slots) (s .idMarks) (s .locations) (s .slotMarks) t (s .batch) (s .tallies)
+withOwners s t = storeOf (s .ids) (s .slots) (s .idMarks) (s .locations) (s .slotMarks) t (s .batch) (s .tallies) (s .carried)
 
 abbrev pub withBatch : Store → Batch → Store
-withBatch s b = storeOf (s .ids) (s .slots) (s .idMarks) (s .locations) (s .slotMarks) (s .owners) b (s .tallies)
+withBatch s b = storeOf (s .ids) (s .slots) (s .idMarks) (s .locations) (s .slotMarks) (s .owners) b (s .tallies) (s .carried)
 
 abbrev pub withTallies : Store → Tallies → Store
-withTallies s t = storeOf (s .ids) (s .slots) (s .idMarks) (s .locations) (s .slotMarks) (s .owners) (s .batch) t
+withTallies s t = storeOf (s .ids) (s .slots) (s .idMarks) (s .locations) (s .slotMarks) (s .owners) (s .batch) t (s .carried)
+
+abbrev pub withCarried : Store → List ℕ → Store
+withCarried s c = storeOf (s .ids) (s .slots) (s .idMarks) (s .locations) (s .slotMarks) (s .owners) (s .batch) (s .tallies) c
 
 -- ---- calls and answers
 
@@ -76,24 +80,31 @@ pub data Update : Type 0 where
 abbrev pub Row : Type 0
 Row = ℕ × ℕ
 
--- A batch as it is offered: of each update its id, whether it is a Store, and the object's length; and the lent list for the locations.
+-- A batch as it is offered: of each update its id, whether it is a Store, the object's length, and what its row is to carry, these one after the
+-- other; and the lent list for the locations.
 pub record Offer : Type 0 where
   pub ids : List ℕ
   pub stores : List Bool
   pub lengths : List ℕ
+  pub carried : List ℕ
   pub placed : List ℕ
 
--- the rows of a rebuild
+-- the rows of a rebuild, and what they carry, one after the other
 pub record Rows : Type 0 where
   pub ids : List ℕ
   pub locations : List ℕ
+  pub carried : List ℕ
 
 -- What only looks, and leaves the store as it is. Lending says of each what it is lent, Questions when it is refused and what it grants.
 pub data Question : Type 0 where
-  lookup : ℕ → Question
+  -- an id, and the lent list for what its row carries
+  lookup : ℕ → List ℕ → Question
   counters : Question
   -- the fill ratio, and the lent lists for ids and locations
   defrag : Float → List ℕ → List ℕ → Question
+  -- how many bytes a snapshot takes; and the lent file for one
+  snapshotLength : Question
+  snapshot : List ℕ → Question
 
 pub data Call : Type 0 where
   newId : Call
@@ -124,13 +135,17 @@ pub data Cut : Type 0 where
 -- what a call grants
 pub data Grant : Type 0 where
   done : Grant
-  -- a new id; a location
+  -- a new id; a number of bytes
   gave : ℕ → Grant
+  -- a location, and what the row carries
+  found : ℕ → List ℕ → Grant
   -- the location of each update
   placed : List ℕ → Grant
   -- granted and freed of each allocator
   counts : List ℕ → List ℕ → Sums → Grant
   moves : List Row → Grant
+  -- the bytes of a snapshot
+  wrote : List ℕ → Grant
   truncated : Cut → Grant
 
 -- refused with a number and an index, or granted

@@ -6,6 +6,7 @@ use Prim.Native.Nat.{ℕ, zero, suc, _+_, _*_, _/_, _%_, _^_, pred}
 use lib.Dec.{ltb, eqb}
 use lib.ListN.{length, getD, set}
 use Rattle.list_parts.specs.Parts.{part}
+use Rattle.carried.specs.Carried.{width}
 use Rattle.address.specs.Address.{unit, isLocation, badSlots, slabs}
 use Rattle.marks.specs.Marks.{isHeld, tip, countIf, isTaken}
 use Rattle.model.specs.Store.{Batch, Store, Row}
@@ -72,10 +73,20 @@ talliesFit s =
     eqb (length (s .tallies .granted)) allocators && eqb (length (s .tallies .freed)) allocators &&
     eqb (length (s .tallies .used)) allocators && eqb (length (s .tallies .high)) slabs
 
+-- the column of what rows carry, for so many ids
+abbrev pub carriedBytes : ℕ → ℕ
+carriedBytes n = (n + mostUpdates) * width
+
+abbrev pub carriedFits : Store → Bool
+carriedFits s = eqb (length (s .carried)) (carriedBytes (s .ids))
+
 -- ---- ids
 
 abbrev pub locationOf : Store → ℕ → ℕ
 locationOf s i = getD (s .locations) i 0
+
+abbrev pub carriedOf : Store → ℕ → List ℕ
+carriedOf s i = part width (s .carried) i
 
 -- an id in range: above 0, below the capacity
 abbrev pub inIds : Store → ℕ → Bool

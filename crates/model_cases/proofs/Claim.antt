@@ -4,6 +4,9 @@ use mathlib.Core.Bool.{true}
 use lib.Ieee.{div, le, lt, eq, ofInt, toUnsigned, round, units, odd, size, span, climb}
 use Rattle.sizes.specs.Sizes.{classOf, slabFor, firstFit, slabSizes, fieldWidth, sizeOf}
 use Rattle.address.specs.Address.{badSlots, packed, unpacked}
+use Rattle.carried.specs.Carried.{putRow, putRows, upFrom, keptRow, committed}
+use Rattle.snapshot_blocks.specs.Formats.{perBlock}
+use Rattle.snapshot_blocks.specs.Files.{fileLength}
 use Rattle.fragmentation.specs.Cutoff.{isRatio, cutoff}
 use Rattle.model.specs.Verdict.{_⨾_, test}
 use Rattle.model.specs.Tables.{badIds}
@@ -11,11 +14,13 @@ use Rattle.model.specs.Ids.{bumpPending}
 use Rattle.model.specs.Batches.{room}
 use Rattle.model.specs.Defrag.{movesFrom}
 use Rattle.model.specs.Lending.{lentFit}
+use Rattle.model.specs.Columns.{offeredColumn, committedColumn, rebuiltColumn}
+use Rattle.model.specs.Snapshots.{thoseFrom}
 use Rattle.model.specs.Questions.{askRefusal, reply}
 use Rattle.model.specs.Step.{refusalOf, refusal, grant, effect, answer, next}
 use Rattle.model.specs.Cases.{allHold, cases}
 use Rattle.model_cases.specs.Cases.{table}
 
 pub claim : allHold table ≡ true
-unfolding table cases classOf slabFor firstFit slabSizes fieldWidth sizeOf badSlots packed unpacked _⨾_ test answer next refusal refusalOf askRefusal reply lentFit grant effect badIds isRatio cutoff div le lt eq ofInt toUnsigned round units odd size span climb room bumpPending movesFrom
+unfolding table cases classOf slabFor firstFit slabSizes fieldWidth sizeOf badSlots packed unpacked _⨾_ test answer next refusal refusalOf askRefusal reply lentFit grant effect badIds isRatio cutoff div le lt eq ofInt toUnsigned round units odd size span climb room bumpPending movesFrom offeredColumn committedColumn rebuiltColumn putRow putRows upFrom keptRow committed thoseFrom fileLength perBlock
 claim = refl

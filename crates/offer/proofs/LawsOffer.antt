@@ -3,7 +3,7 @@
 use mathlib.Core.Bool.{Bool, true, false, not, _&&_}
 use mathlib.Core.List.{List, [], _++_, append-nil}
 use mathlib.Core.Path.{_≡_, refl, sym, ap, _∙_}
-use Prim.Native.Nat.{ℕ, _+_, _≤_, _<_}
+use Prim.Native.Nat.{ℕ, _+_, _*_, _/_, _≤_, _<_}
 use native.Mathlib.Numerals.{add-one}
 use native.Mathlib.Omega.{arith}
 use lib.Dec.{ltb}
@@ -15,11 +15,13 @@ use Rattle.refusal.specs.declared.Refusal.{Refusal}
 use Rattle.refusal.specs.declared.Judged.{Judged}
 use Rattle.refusal.specs.declared.Judged.the-variants as J
 use Rattle.refusal.proofs.Tests.{and-true}
+use Rattle.carried.specs.Carried.{width, putRows, upFrom}
 use Rattle.address.specs.Address.{badSlots, slabs}
 use Rattle.model.specs.Batches.{updatesIn, updates, room, takenBy}
 use Rattle.model.specs.Outcomes.{over}
 use Rattle.model.specs.Memory.{Memory, read, keptIdsAt, keptLocationsAt}
 use Rattle.model.specs.MemoryAfter.{Slots, slotsOf, takeSlots, keptWords, memoryEffect, memoryAfter}
+use Rattle.model.specs.Columns.{carriesFor, offeredColumn}
 use Rattle.model.specs.Lending.{everyTable}
 use Rattle.model.specs.Lent.{fits}
 use Rattle.model.specs.Step.{refusalOf, refusal, grant, answer}
@@ -54,17 +56,17 @@ seq-on o v w e p = let q : ok ≡ v = sym (ap judgedVerdict p) ∙ e in ap (λ x
 -- ---- what an offer leaves
 module _ (m : Memory) (o : Offer) where
   pub leaves-refused : (n i : ℕ) → refusal (read m) (offer o) ≡ refuse n i
-      → record { answer = refused n i; slotMarks = m .slotMarks; batch = m .batch; tallies = m .tallies; placed = o .placed } ≡ offerLeaves m o
+      → record { answer = refused n i; slotMarks = m .slotMarks; batch = m .batch; tallies = m .tallies; carried = m .carried; placed = o .placed } ≡ offerLeaves m o
   unfolding offerLeaves answer memoryAfter
   leaves-refused n i e = rw e
 
   pub leaves-as : (r : Refusal) (n : ℕ) → r ≡ record { number = n; index = 0 } → refusal (read m) (offer o) ≡ refuse n 0
-      → record { answer = refused (r .number) (r .index); slotMarks = m .slotMarks; batch = m .batch; tallies = m .tallies; placed = o .placed } ≡ offerLeaves m o
+      → record { answer = refused (r .number) (r .index); slotMarks = m .slotMarks; batch = m .batch; tallies = m .tallies; carried = m .carried; placed = o .placed } ≡ offerLeaves m o
   leaves-as r n p e =
-      (λ i. record { answer = refused (p i .number) (p i .index); slotMarks = m .slotMarks; batch = m .batch; tallies = m .tallies; placed = o .placed }) ∙ leaves-refused n 0 e
+      (λ i. record { answer = refused (p i .number) (p i .index); slotMarks = m .slotMarks; batch = m .batch; tallies = m .tallies; carried = m .carried; placed = o .placed }) ∙ leaves-refused n 0 e
 
   pub leaves-verdict : (j : Judged) (r : Refusal) → j ≡ J.Refused r → refusal (read m) (offer o) ≡ judgedVerdict j
-      → record { answer = refused (r .number) (r .index); slotMarks = m .slotMarks; batch = m .batch; tallies = m .tallies; placed = o .placed } ≡ offerLeaves m o
+      → record { answer = refused (r .number) (r .index); slotMarks = m .slotMarks; batch = m .batch; tallies = m .tallies; carried = m .carried; placed = o .placed } ≡ offerLeaves m o
   leaves-verdict j r p e = leaves-refused (r .number) (r .index) (e ∙ ap judgedVerdict p)
 
   abbrev NewLocations : List ℕ
@@ -75,6 +77,7 @@ module _ (m : Memory) (o : Offer) where
     slotMarks = takeSlots (m .slots) (slotsOf m) NewLocations .marks;
     batch = keptWords (m .batch) (o .ids) NewLocations;
     tallies = takeSlots (m .slots) (slotsOf m) NewLocations .words;
+    carried = offeredColumn (m .ids) o (m .carried);
     placed = over NewLocations (o .placed);
   } ≡ offerLeaves m o
   unfolding offerLeaves answer memoryAfter memoryEffect grant
@@ -82,11 +85,11 @@ module _ (m : Memory) (o : Offer) where
 
   -- ---- refusal 1
   abbrev lists-long : Bool
-  lists-long = asLong (o .ids) (o .stores) && asLong (o .ids) (o .lengths) && asLong (o .ids) (o .placed)
+  lists-long = asLong (o .ids) (o .stores) && asLong (o .ids) (o .lengths) && asLong (o .ids) (o .placed) && carriesFor (o .ids) (o .carried)
 
   abbrev Fit : Bool
   Fit = offerFits (m .ids) (m .slots) (length (m .idMarks)) (length (m .locations)) (length (m .slotMarks)) (length (m .owners)) (length (m .batch)) (length (m .tallies))
-      (length (o .ids)) (length (o .stores)) (length (o .lengths)) (length (o .placed))
+      (length (m .carried)) (length (o .ids)) (length (o .stores)) (length (o .lengths)) (length (o .carried)) (length (o .placed))
 
   -- the chain of tests, the first of them on lengths
   chain : refusal (read m) (offer o)
@@ -118,14 +121,24 @@ module _ (m : Memory) (o : Offer) where
     pub stores : length (o .stores) ≡ length (o .ids)
     pub lengths : length (o .lengths) ≡ length (o .ids)
     pub list : length (o .placed) ≡ length (o .ids)
+    pub rows : length (o .carried) ≡ length (o .ids) * width
 
   pub shaped : Fit ≡ true → Shaped
   unfolding offerFits
   shaped e =
       let a = and-true (fits everyTable m) lists-long e in
-      let b = and-true _ (asLong (o .ids) (o .placed)) (a .1) in
+      let w = and-true _ (carriesFor (o .ids) (o .carried)) (a .1) in
+      let b = and-true _ (asLong (o .ids) (o .placed)) (w .0) in
       let d = and-true (asLong (o .ids) (o .stores)) (asLong (o .ids) (o .lengths)) (b .0) in
-      record { fit = a .0; stores = eqb-true _ _ (d .0); lengths = eqb-true _ _ (d .1); list = eqb-true _ _ (b .1) }
+      record { fit = a .0; stores = eqb-true _ _ (d .0); lengths = eqb-true _ _ (d .1); list = eqb-true _ _ (b .1); rows = eqb-true _ _ (w .1) }
+
+  -- the column with the rows that were offered, as many as there are updates
+  column : Fit ≡ true → (t : List ℕ) → t ≡ putRows width (upFrom (m .ids) (length (o .carried) / width)) (o .carried) (m .carried) → t ≡ offeredColumn (m .ids) o (m .carried)
+  unfolding offeredColumn
+  column e t p =
+      let r = shaped e .rows in
+      let n : length (o .carried) / width ≡ length (o .ids) = omega arith in
+      p ∙ ap (λ k. putRows width (upFrom (m .ids) k) (o .carried) (m .carried)) n
 
   good : Fit ≡ true → badSlots (m .slots) ≡ false
   good e = fits-range everyTable m (shaped e .fit) .slots-good
@@ -172,11 +185,12 @@ module _ (m : Memory) (o : Offer) where
           ap (checkIn m [] 0 (o .ids)) (sym κ) ∙ sym (check-lent m [] 0 (o .ids) ks) in
           refused-rest ∙ (λ i. u i ⨾ roomIn (m .slots) (m .slotMarks) (m .tallies) (tallied noneAsked (sym κ i)) slabs 0) ∙ sym p
 
-      pub leaves-done : (ls marks words b : List ℕ) → refusal (read m) (offer o) ≡ ok → ls ≡ sets (o .placed) 0 (placeIn (m .slots) (slotsOf m) ks)
+      pub leaves-done : (ls marks words b t : List ℕ) → refusal (read m) (offer o) ≡ ok → ls ≡ sets (o .placed) 0 (placeIn (m .slots) (slotsOf m) ks)
           → slotsIn marks words ≡ takeSlots (m .slots) (slotsOf m) (placeIn (m .slots) (slotsOf m) ks) → b ≡ set (sets (sets (m .batch) keptIdsAt (o .ids)) keptLocationsAt ls) 0 (length (o .ids) + 1)
-          → record { answer = granted (placed ls); slotMarks = marks; batch = b; tallies = words; placed = ls } ≡ offerLeaves m o
+          → t ≡ putRows width (upFrom (m .ids) (length (o .carried) / width)) (o .carried) (m .carried)
+          → record { answer = granted (placed ls); slotMarks = marks; batch = b; tallies = words; carried = t; placed = ls } ≡ offerLeaves m o
       unfolding read
-      leaves-done ls marks words b g p q k =
+      leaves-done ls marks words b c g p q k h =
           let s = shaped e in
           let r : placeIn (m .slots) (slotsOf m) ks ≡ NewLocations =
           ap (placeIn (m .slots) (slotsOf m)) κ ∙ place-read (m .slots) (good e) (o .ids) (o .stores) (o .lengths) (slotsOf m) fit (s .stores) (s .lengths) in
@@ -189,5 +203,6 @@ module _ (m : Memory) (o : Offer) where
             slotMarks = ap (λ (x : Slots). x .marks) w i;
             batch = (k ∙ (λ j. set (sets (sets (m .batch) keptIdsAt (o .ids)) keptLocationsAt ls) 0 (add-one (length (o .ids)) j)) ∙ ap (keptWords (m .batch) (o .ids)) t) i;
             tallies = ap (λ (x : Slots). x .words) w i;
+            carried = column e c h i;
             placed = (t ∙ v) i;
           }) ∙ leaves-granted g

@@ -38,7 +38,7 @@ kinds-front ks n l h =
     ap (take n) (sets-eq ks (replicate mostUpdates freeKind) 0 w) ∙ take-at ks (drop (0 + length ks) (replicate mostUpdates freeKind)) n l
 
 -- ---- the tests
--- a memory without the batch, which the check does not see
+-- a memory without the batch and the column, which the check does not see
 abbrev pub unkept : Memory → Memory
 unkept m = lentBy placeTables (m .ids) (m .slots) (m .idMarks) (m .locations) (m .slotMarks) (m .owners) (m .tallies)
 

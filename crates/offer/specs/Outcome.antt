@@ -19,6 +19,7 @@ pub record Left : Type 0 where
   pub slotMarks : List ℕ
   pub batch : List ℕ
   pub tallies : List ℕ
+  pub carried : List ℕ
   pub placed : List ℕ
 
 unfoldable pub offerLeaves : Memory → Offer → Left
@@ -27,5 +28,6 @@ offerLeaves m o = record {
   slotMarks = memoryAfter m (offer o) .slotMarks;
   batch = memoryAfter m (offer o) .batch;
   tallies = memoryAfter m (offer o) .tallies;
+  carried = memoryAfter m (offer o) .carried;
   placed = listIn 0 (answer (read m) (offer o)) (o .placed);
 }

@@ -1,9 +1,9 @@
 // A batch is offered (document 01, "Ids, slots, pending"): its slots are taken in list order, and the store keeps it until it is committed
-// or abandoned.
+// or abandoned. What the updates carry is kept with it (request 2026-01).
 //
-//     // ids 4 and 7 get objects of 3 and 300 bytes, 5 is freed
+//     // ids 4 and 7 get objects of 3 and 300 bytes, 5 is freed; update_carried has carried::WIDTH bytes for each
 //     match offer::offer(caps, &id_marks, &locations, &mut slot_marks, &owners, &mut batch, &mut tallies,
-//         &[4, 7, 5], &[true, true, false], &[3, 300, 0], &mut placed) {
+//         &mut carried, &[4, 7, 5], &[true, true, false], &[3, 300, 0], &update_carried, &mut placed) {
 //         Finished::Done => ..,              // placed has a packed location for each update, 0 for the Free
 //         Finished::Refused(refusal) => ..,  // nothing is written
 //     }
@@ -11,6 +11,9 @@
 // What could refuse only reads (`offer_updates`, `offer_room`); what is written comes after it and cannot fail (`offer_places`).
 ghost use mathlib.Core.Path.{_≡_};
 ghost use mathlib.Core.List.{[]};
+ghost use Prim.Native.Nat.{_*_};
+ghost use lib.Dec.{eqb};
+ghost use Rattle.carried.specs.Carried.{width};
 ghost use Rattle.model.specs.Verdict.{_⨾_, judgedVerdict};
 ghost use Rattle.model.specs.Lending.{everyTable, placeTables};
 ghost use Rattle.model.specs.Lent.{lentBy};
@@ -25,6 +28,7 @@ use tables::Capacities;
 use tables::MOST_UPDATES;
 use tables::all_fit;
 use tables::both;
+use tables::carries;
 use tables::get;
 
 // Refusal 1, by lengths.
@@ -36,13 +40,15 @@ fn fits(
     owners: usize,
     batch: usize,
     tallies: usize,
+    carried: usize,
     ids: usize,
     stores: usize,
     lengths: usize,
+    update_carried: usize,
     placed: usize,
 ) -> bool
     ensures { λ r. ⌜ r ≡ offerFits (caps .ids) (caps .slots)
-        «id_marks» locations «slot_marks» owners batch tallies ids stores lengths placed ⌝ }
+        «id_marks» locations «slot_marks» owners batch tallies carried ids stores lengths «update_carried» placed ⌝ }
 {
     both(
         all_fit(
@@ -53,8 +59,12 @@ fn fits(
             owners,
             batch,
             tallies,
+            carried,
         ),
-        both(both(stores == ids, lengths == ids), placed == ids),
+        both(
+            both(both(stores == ids, lengths == ids), placed == ids),
+            carries(ids, update_carried),
+        ),
     )
 }
 
@@ -105,9 +115,11 @@ pub fn offer(
     owners: &[u64],
     batch: &mut [u64],
     tallies: &mut [u64],
+    carried: &mut [u8],
     ids: &[u64],
     stores: &[bool],
     lengths: &[u64],
+    update_carried: &[u8],
     placed: &mut [u64],
 ) -> Finished
     ensures { λ r. ⌜ _≡_ {A = Left} (record {
@@ -115,6 +127,7 @@ pub fn offer(
       slotMarks = now («slot_marks» .exit);
       batch = now (batch .exit);
       tallies = now (tallies .exit);
+      carried = now (carried .exit);
       placed = now (placed .exit);
     })
         (offerLeaves
@@ -124,11 +137,13 @@ pub fn offer(
         (now («slot_marks» .entry))
         (now (owners .entry))
         (now (batch .entry))
-        (now (tallies .entry)))
+        (now (tallies .entry))
+        (now (carried .entry)))
         (record {
           ids = now (ids .entry);
           stores = now (stores .entry);
           lengths = now (lengths .entry);
+          carried = now («update_carried» .entry);
           placed = now (placed .entry);
         })) ⌝ }
 {
@@ -142,9 +157,11 @@ pub fn offer(
         owners.len(),
         batch.len(),
         tallies.len(),
+        carried.len(),
         n,
         stores.len(),
         lengths.len(),
+        update_carried.len(),
         placed.len(),
     ) {
         return Finished::Refused(Refusal::of(Refusal::WRONG_SHAPE));
@@ -172,5 +189,6 @@ pub fn offer(
     }
     offer_places::place(slots, slot_marks, tallies, slabs, placed);
     offer_places::keep(batch, ids, placed, n as u64 + 1);
+    carried::put_rows(carried, caps.ids, update_carried);
     Finished::Done
 }

@@ -3,7 +3,7 @@
 use mathlib.Core.Path.{_≡_, refl, ap, sym, _∙_}
 use mathlib.Core.Bool.{Bool, true, false, not, cond, _&&_}
 use mathlib.Core.List.{List, []}
-use Prim.Native.Nat.{ℕ, min}
+use Prim.Native.Nat.{ℕ, _*_, min}
 use lib.Dec.{eqb}
 use lib.ListN.{length, replicate}
 use lib.Seq.{set-getD}
@@ -11,17 +11,19 @@ use borrow.Author.Tests.{eqb-true, eq-eqb, ne-eqb, not-true, not-false}
 use Rattle.refusal.proofs.Tests.{and-true, clash}
 use Rattle.refusal.specs.Outcomes.{granted, refused}
 use Rattle.refusal.specs.Refusals.{wrongShape}
+use Rattle.carried.specs.Carried.{width, putRows}
 use Rattle.address.specs.Address.{badSlots}
 use Rattle.model.specs.Store.{Call, done, fresh, rebuild}
 use Rattle.model.specs.Step.{answer, answerBy, grant, refusalOf, refusal, unless}
 use Rattle.model.specs.Tables.{writeAll, locationsOf}
 use Rattle.model.specs.Rebuild.{rows, rowsOf, heldBy, locatedBy, ownedBy}
 use Rattle.model.specs.Verdict.{ok, refuse, test, _⨾_}
-use Rattle.model.specs.Memory.{Memory, memoryOf, read, putWord, wordAt, usedWords, tallyWords}
+use Rattle.model.specs.Memory.{Memory, memoryOf, carrying, read, putWord, wordAt, usedWords, tallyWords}
 use Rattle.model.specs.MemoryAfter.{memoryAfter, memoryEffect, memoryRebuilt, useSlots}
+use Rattle.model.specs.Columns.{rebuiltColumn}
 use Rattle.model.specs.Lending.{everyTable}
 use Rattle.model.specs.Lent.{fits}
-use Rattle.model.proofs.Sizes.{shape-read, fits-range, fits-id-marks, fits-locations, fits-slot-marks, fits-owners, fits-batch, fits-tallies}
+use Rattle.model.proofs.Sizes.{shape-read, fits-range, fits-id-marks, fits-locations, fits-slot-marks, fits-owners, fits-batch, fits-tallies, fits-carried}
 use Rattle.rebuild_rows.specs.Checks.{refusedRow, wrongVerdict}
 use Rattle.rebuild_rows.specs.declared.Wrong.{Wrong}
 use Rattle.rebuild_rows.proofs.Checked.{verdict-is, rows-length}
@@ -39,8 +41,8 @@ fresh-refused m q n =
     let r : refusal (read m) fresh ≡ refuse wrongShape 0 = fresh-refusal m ∙ ap (λ b. test (not b) wrongShape 0 ⨾ ok) (sym q ∙ not-true _ n) in
     (ap (λ w. answerBy w (grant (read m) fresh)) (sym r), ap (λ w. unless w m (memoryEffect m fresh)) (sym r))
 
-module _ (m : Memory) (a b c d e g : List ℕ) where
-  -- six tables of zeros, as long as m's
+module _ (m : Memory) (a b c d e g h : List ℕ) where
+  -- seven tables of zeros, as long as m's
   abbrev pub Cleared : Type 0
   Cleared =
       (a ≡ replicate (length (m .idMarks)) 0)
@@ -49,33 +51,40 @@ module _ (m : Memory) (a b c d e g : List ℕ) where
       × (d ≡ replicate (length (m .owners)) 0)
       × (e ≡ replicate (length (m .batch)) 0)
       × (g ≡ replicate (length (m .tallies)) 0)
+      × (h ≡ replicate (length (m .carried)) 0)
 
-  cleared : fits everyTable m ≡ true → Cleared → memoryOf (m .ids) (m .slots) a b c d e g ≡ memoryRebuilt (m .ids) (m .slots) []
+  cleared : fits everyTable m ≡ true → Cleared → carrying (memoryOf (m .ids) (m .slots) a b c d e g) h ≡ memoryRebuilt (m .ids) (m .slots) []
   cleared f w =
       let used = ap (λ n. replicate n 0) (fits-tallies everyTable m f) ∙ sym (set-getD {A = ℕ} (replicate tallyWords 0) (wordAt usedWords 0) 0) in
-      (λ i. memoryOf (m .ids) (m .slots) (w .0 i) (w .1 i) (w .2 i) (w .3 i) (w .4 i) (w .5 i))
-      ∙ (λ i. memoryOf (m .ids) (m .slots)
+      (λ i. carrying (memoryOf (m .ids) (m .slots) (w .0 i) (w .1 i) (w .2 i) (w .3 i) (w .4 i) (w .5 i)) (w .6 i))
+      ∙ (λ i. carrying (memoryOf (m .ids) (m .slots)
       (replicate (fits-id-marks everyTable m f i) 0)
       (replicate (fits-locations everyTable m f i) 0)
       (replicate (fits-slot-marks everyTable m f i) 0)
       (replicate (fits-owners everyTable m f i) 0)
       (replicate (fits-batch everyTable m f i) 0)
       (used i))
+      (replicate (fits-carried everyTable m f i) 0))
 
-pub fresh-granted : (m : Memory) {f : Bool} {a b c d e g : List ℕ} → f ≡ fits everyTable m → not f ≡ false → Cleared m a b c d e g
-    → (granted done ≡ answer (read m) fresh) × (memoryOf (m .ids) (m .slots) a b c d e g ≡ memoryAfter m fresh)
+pub fresh-granted : (m : Memory) {f : Bool} {a b c d e g h : List ℕ} → f ≡ fits everyTable m → not f ≡ false → Cleared m a b c d e g h
+    → (granted done ≡ answer (read m) fresh) × (carrying (memoryOf (m .ids) (m .slots) a b c d e g) h ≡ memoryAfter m fresh)
 unfolding answer memoryAfter test _⨾_ grant memoryEffect
-fresh-granted m {f} {a} {b} {c} {d} {e} {g} q n w =
+fresh-granted m {f} {a} {b} {c} {d} {e} {g} {h} q n w =
     let fit : fits everyTable m ≡ true = sym q ∙ not-false _ n in
     let r : refusal (read m) fresh ≡ ok = fresh-refusal m ∙ ap (λ b. test (not b) wrongShape 0 ⨾ ok) fit in (
       ap (λ v. answerBy v done) (sym r),
-      cleared m a b c d e g fit w ∙ ap (λ v. unless v m (memoryRebuilt (m .ids) (m .slots) [])) (sym r),
+      cleared m a b c d e g h fit w ∙ ap (λ v. unless v m (memoryRebuilt (m .ids) (m .slots) [])) (sym r),
     )
 
 -- ---- rebuild
 
-module _ (m : Memory) (is ls a b c d e g : List ℕ) where
-  -- six tables with the rows, as long as m's
+-- the memory that it leaves
+abbrev rebuiltMemory : Memory → List ℕ → List ℕ → List ℕ → Memory
+rebuiltMemory m is ls bs =
+    carrying (memoryRebuilt (m .ids) (m .slots) (rowsOf is ls)) (rebuiltColumn (m .ids) (record { ids = is; locations = ls; carried = bs }))
+
+module _ (m : Memory) (is ls bs a b c d e g h : List ℕ) where
+  -- seven tables with the rows, as long as m's
   abbrev pub Written : Type 0
   Written =
       (a ≡ heldBy (rowsOf is ls) (replicate (length (m .idMarks)) 0))
@@ -84,35 +93,38 @@ module _ (m : Memory) (is ls a b c d e g : List ℕ) where
       × (d ≡ ownedBy (m .slots) (rowsOf is ls) (replicate (length (m .owners)) 0))
       × (e ≡ replicate (length (m .batch)) 0)
       × (g ≡ useSlots (m .slots) (putWord (replicate (length (m .tallies)) 0) usedWords 0 (min 1 (length is))) (locationsOf (rowsOf is ls)))
+      × (h ≡ putRows width is bs (replicate (length (m .carried)) 0))
 
   written : fits everyTable m ≡ true → length ls ≡ length is → Written
-      → memoryOf (m .ids) (m .slots) a b c d e g ≡ memoryRebuilt (m .ids) (m .slots) (rowsOf is ls)
+      → carrying (memoryOf (m .ids) (m .slots) a b c d e g) h ≡ rebuiltMemory m is ls bs
+  unfolding rebuiltColumn
   written f q w =
-      (λ i. memoryOf (m .ids) (m .slots) (w .0 i) (w .1 i) (w .2 i) (w .3 i) (w .4 i) (w .5 i))
-      ∙ (λ i. memoryOf (m .ids) (m .slots)
+      (λ i. carrying (memoryOf (m .ids) (m .slots) (w .0 i) (w .1 i) (w .2 i) (w .3 i) (w .4 i) (w .5 i)) (w .6 i))
+      ∙ (λ i. carrying (memoryOf (m .ids) (m .slots)
       (heldBy (rowsOf is ls) (replicate (fits-id-marks everyTable m f i) 0))
       (locatedBy (rowsOf is ls) (replicate (fits-locations everyTable m f i) 0))
       (writeAll (m .slots) (locationsOf (rowsOf is ls)) 1 (replicate (fits-slot-marks everyTable m f i) 0))
       (ownedBy (m .slots) (rowsOf is ls) (replicate (fits-owners everyTable m f i) 0))
       (replicate (fits-batch everyTable m f i) 0)
       (useSlots (m .slots) (putWord (replicate (fits-tallies everyTable m f i) 0) usedWords 0 (min 1 (rows-length is ls q i))) (locationsOf (rowsOf is ls))))
+      (putRows width is bs (replicate (fits-carried everyTable m f i) 0)))
 
-module _ (m : Memory) (is ls : List ℕ) where
+module _ (m : Memory) (is ls bs : List ℕ) where
   abbrev call : Call
-  call = rebuild (record { ids = is; locations = ls })
+  call = rebuild (record { ids = is; locations = ls; carried = bs })
 
-  -- there are as many locations as ids
+  -- there are as many locations as ids, and as many bytes as they carry
   abbrev long : Bool
-  long = eqb (length ls) (length is)
+  long = eqb (length ls) (length is) && eqb (length bs) (length is * width)
 
   abbrev fit : Bool
   fit = fits everyTable m && long
 
-  pub fit-not : {f b : Bool} → f ≡ fits everyTable m → b ≡ (f && long) → not b ≡ true → fit ≡ false
-  fit-not q p n = sym (p ∙ ap (λ x. x && long) q) ∙ not-true _ n
+  pub fit-not : {f l b : Bool} → f ≡ fits everyTable m → l ≡ long → b ≡ (f && l) → not b ≡ true → fit ≡ false
+  fit-not q r p n = sym (p ∙ (λ i. q i && r i)) ∙ not-true _ n
 
-  pub fit-so : {f b : Bool} → f ≡ fits everyTable m → b ≡ (f && long) → not b ≡ false → fit ≡ true
-  fit-so q p n = sym (p ∙ ap (λ x. x && long) q) ∙ not-false _ n
+  pub fit-so : {f l b : Bool} → f ≡ fits everyTable m → l ≡ long → b ≡ (f && l) → not b ≡ false → fit ≡ true
+  fit-so q r p n = sym (p ∙ (λ i. q i && r i)) ∙ not-false _ n
 
   rebuild-refusal : {a b : Bool} → fits everyTable m ≡ a → long ≡ b
       → refusal (read m) call ≡ (test (not a) wrongShape 0 ⨾ test (not b) wrongShape 0 ⨾ rows (read m) [] [] 0 (rowsOf is ls))
@@ -141,7 +153,7 @@ module _ (m : Memory) (is ls : List ℕ) where
   pub fit-rows : fit ≡ true → RowsFit
   fit-rows e =
       let b = and-true (fits everyTable m) long e in
-      record { shape = b .0; good = fits-range everyTable m (b .0) .slots-good; long-is = eqb-true _ _ (b .1) }
+      record { shape = b .0; good = fits-range everyTable m (b .0) .slots-good; long-is = eqb-true _ _ (and-true (eqb (length ls) (length is)) _ (b .1) .0) }
 
   module _ (e : fit ≡ true) (w : Wrong) (c : w ≡ refusedRow (m .ids) (m .slots) is ls) where
     verdict : refusal (read m) call ≡ wrongVerdict w
@@ -158,12 +170,12 @@ module _ (m : Memory) (is ls : List ℕ) where
         let r : refusal (read m) call ≡ refuse (w .number) (w .row) = verdict ∙ ap (λ b. cond b ok (refuse (w .number) (w .row))) (ne-eqb (w .number) 0 n) in
         (ap (λ v. answerBy v (grant (read m) call)) (sym r), ap (λ v. unless v m (memoryEffect m call)) (sym r))
 
-    pub rebuild-granted : {t₁ t₂ t₃ t₄ t₅ t₆ : List ℕ} → w .number ≡ 0 → Written m is ls t₁ t₂ t₃ t₄ t₅ t₆
-        → (granted done ≡ answer (read m) call) × (memoryOf (m .ids) (m .slots) t₁ t₂ t₃ t₄ t₅ t₆ ≡ memoryAfter m call)
+    pub rebuild-granted : {t₁ t₂ t₃ t₄ t₅ t₆ t₇ : List ℕ} → w .number ≡ 0 → Written m is ls bs t₁ t₂ t₃ t₄ t₅ t₆ t₇
+        → (granted done ≡ answer (read m) call) × (carrying (memoryOf (m .ids) (m .slots) t₁ t₂ t₃ t₄ t₅ t₆) t₇ ≡ memoryAfter m call)
     unfolding answer memoryAfter grant memoryEffect
-    rebuild-granted {t₁} {t₂} {t₃} {t₄} {t₅} {t₆} n t =
+    rebuild-granted {t₁} {t₂} {t₃} {t₄} {t₅} {t₆} {t₇} n t =
         let r : refusal (read m) call ≡ ok = verdict ∙ ap (λ b. cond b ok (refuse (w .number) (w .row))) (eq-eqb (w .number) 0 n) in
         let s = fit-rows e in (
           ap (λ v. answerBy v done) (sym r),
-          written m is ls t₁ t₂ t₃ t₄ t₅ t₆ (s .shape) (s .long-is) t ∙ ap (λ v. unless v m (memoryRebuilt (m .ids) (m .slots) (rowsOf is ls))) (sym r),
+          written m is ls bs t₁ t₂ t₃ t₄ t₅ t₆ t₇ (s .shape) (s .long-is) t ∙ ap (λ v. unless v m (rebuiltMemory m is ls bs)) (sym r),
         )

@@ -3,6 +3,7 @@ ghost use mathlib.Core.Path.{_≡_};
 ghost use mathlib.Core.Bool.{false, cond};
 ghost use Prim.Native.Nat.{_/_, min};
 ghost use lib.ListN.{length, replicate};
+ghost use Rattle.carried.specs.Carried.{width, putRows};
 ghost use Rattle.address.specs.Address.{badSlots, unit, isLocation};
 ghost use Rattle.model.specs.Tables.{write, writeAll, locationsOf};
 ghost use Rattle.model.specs.Rebuild.{rowsOf, heldBy, locatedBy, ownedBy};
@@ -83,7 +84,7 @@ fn hold_slots(
     }
 }
 
-// Every word of the six tables: the rows, and zeros elsewhere.
+// Every word and byte of the seven tables: the rows, and zeros elsewhere.
 pub(crate) fn write(
     slots: usize,
     id_marks: &mut [u8],
@@ -92,8 +93,10 @@ pub(crate) fn write(
     owners: &mut [u64],
     batch: &mut [u64],
     tallies: &mut [u64],
+    carried: &mut [u8],
     ids: &[u64],
     row_locations: &[u64],
+    row_carried: &[u8],
 )
     requires { ⌜ (badSlots slots ≡ false) × (length (now «row_locations») ≡ length (now ids)) ⌝ }
     ensures { λ _. ⌜ (now («id_marks» .exit)
@@ -108,10 +111,21 @@ pub(crate) fn write(
         × (now (batch .exit) ≡ replicate (length (now (batch .entry))) 0)
         × (now (tallies .exit)
         ≡ useSlots slots (putWord (replicate (length (now (tallies .entry))) 0) usedWords 0 (min 1 (length (now (ids .entry)))))
-        (locationsOf (rowsOf (now (ids .entry)) (now («row_locations» .entry))))) ⌝ }
+        (locationsOf (rowsOf (now (ids .entry)) (now («row_locations» .entry)))))
+        × (now (carried .exit)
+        ≡ putRows width (now (ids .entry)) (now («row_carried» .entry)) (replicate (length (now (carried .entry))) 0)) ⌝ }
 {
-    clear::all(id_marks, locations, slot_marks, owners, batch, tallies);
+    clear::all(
+        id_marks,
+        locations,
+        slot_marks,
+        owners,
+        batch,
+        tallies,
+        carried,
+    );
     tables::put(tallies, tables::USED, 0, any(ids.len()));
     hold_ids(id_marks, locations, ids, row_locations);
     hold_slots(slots, slot_marks, owners, tallies, ids, row_locations);
+    carried::put_rows_at(carried, ids, row_carried);
 }

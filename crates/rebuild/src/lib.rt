@@ -1,14 +1,19 @@
-// A store made anew: from rows of an id and a location, or from none (object_location_mapper.rs, new; document 01, "Ids, slots,
-// pending").
+// A store made anew: from rows of an id, a location and what the row carries, or from none (object_location_mapper.rs, new; document 01,
+// "Ids, slots, pending"; request 2026-01).
 //
-//     // ids, row_locations: the rows, in any order
-//     match rebuild::rebuild(caps, &mut id_marks, &mut locations, &mut slot_marks, &mut owners, &mut batch, &mut tallies, &ids, &row_locations) {
+//     // ids, row_locations, row_carried: the rows, in any order; row_carried has carried::WIDTH bytes for each
+//     match rebuild::rebuild(caps, &mut id_marks, &mut locations, &mut slot_marks, &mut owners, &mut batch, &mut tallies, &mut carried,
+//         &ids, &row_locations, &row_carried) {
 //         Finished::Done => ..,
 //         Finished::Refused(refusal) => ..,  // 1; by its row 8, 9, 3, 16
 //     }
 //
-// Every word of the six tables is written, or none where the call is refused.
+// Every word and byte of the seven tables is written, or none where the call is refused.
 ghost use mathlib.Core.Path.{_≡_};
+ghost use mathlib.Core.Bool.{_&&_};
+ghost use Prim.Native.Nat.{_*_};
+ghost use lib.Dec.{eqb};
+ghost use Rattle.carried.specs.Carried.{width};
 ghost use Rattle.model.specs.Store.{fresh, rebuild, finishedAnswer};
 ghost use Rattle.model.specs.Lent.{lentTo, answered, leaves};
 use refusal::Finished;
@@ -27,6 +32,7 @@ pub fn fresh(
     owners: &mut [u64],
     batch: &mut [u64],
     tallies: &mut [u64],
+    carried: &mut [u8],
 ) -> Finished
     ensures { λ r. ⌜ (finishedAnswer r
         ≡ answered fresh (caps .ids) (caps .slots)
@@ -35,7 +41,8 @@ pub fn fresh(
         (now («slot_marks» .entry))
         (now (owners .entry))
         (now (batch .entry))
-        (now (tallies .entry)))
+        (now (tallies .entry))
+        (now (carried .entry)))
         × (lentTo fresh (caps .ids) (caps .slots)
         (now («id_marks» .exit))
         (now (locations .exit))
@@ -43,13 +50,15 @@ pub fn fresh(
         (now (owners .exit))
         (now (batch .exit))
         (now (tallies .exit))
+        (now (carried .exit))
         ≡ leaves fresh (caps .ids) (caps .slots)
         (now («id_marks» .entry))
         (now (locations .entry))
         (now («slot_marks» .entry))
         (now (owners .entry))
         (now (batch .entry))
-        (now (tallies .entry))) ⌝ }
+        (now (tallies .entry))
+        (now (carried .entry))) ⌝ }
 {
     if !tables::all_fit(
         caps,
@@ -59,11 +68,27 @@ pub fn fresh(
         owners.len(),
         batch.len(),
         tallies.len(),
+        carried.len(),
     ) {
         return Finished::Refused(Refusal::of(Refusal::WRONG_SHAPE));
     }
-    clear::all(id_marks, locations, slot_marks, owners, batch, tallies);
+    clear::all(
+        id_marks,
+        locations,
+        slot_marks,
+        owners,
+        batch,
+        tallies,
+        carried,
+    );
     Finished::Done
+}
+
+// There is a location for each id, and as many bytes as they carry.
+fn rows_fit(ids: usize, locations: usize, carried: usize) -> bool
+    ensures { λ r. ⌜ r ≡ (eqb locations ids && eqb carried (ids * width)) ⌝ }
+{
+    tables::both(locations == ids, tables::carries(ids, carried))
 }
 
 // A store that holds the rows' ids and slots, and nothing else.
@@ -75,19 +100,22 @@ pub fn rebuild(
     owners: &mut [u64],
     batch: &mut [u64],
     tallies: &mut [u64],
+    carried: &mut [u8],
     ids: &[u64],
     row_locations: &[u64],
+    row_carried: &[u8],
 ) -> Finished
     ensures { λ r. ⌜ (finishedAnswer r
-        ≡ answered (rebuild (record { ids = now (ids .entry); locations = now («row_locations» .entry) }))
+        ≡ answered (rebuild (record { ids = now (ids .entry); locations = now («row_locations» .entry); carried = now («row_carried» .entry) }))
         (caps .ids) (caps .slots)
         (now («id_marks» .entry))
         (now (locations .entry))
         (now («slot_marks» .entry))
         (now (owners .entry))
         (now (batch .entry))
-        (now (tallies .entry)))
-        × (lentTo (rebuild (record { ids = now (ids .entry); locations = now («row_locations» .entry) }))
+        (now (tallies .entry))
+        (now (carried .entry)))
+        × (lentTo (rebuild (record { ids = now (ids .entry); locations = now («row_locations» .entry); carried = now («row_carried» .entry) }))
         (caps .ids) (caps .slots)
         (now («id_marks» .exit))
         (now (locations .exit))
@@ -95,14 +123,16 @@ pub fn rebuild(
         (now (owners .exit))
         (now (batch .exit))
         (now (tallies .exit))
-        ≡ leaves (rebuild (record { ids = now (ids .entry); locations = now («row_locations» .entry) }))
+        (now (carried .exit))
+        ≡ leaves (rebuild (record { ids = now (ids .entry); locations = now («row_locations» .entry); carried = now («row_carried» .entry) }))
         (caps .ids) (caps .slots)
         (now («id_marks» .entry))
         (now (locations .entry))
         (now («slot_marks» .entry))
         (now (owners .entry))
         (now (batch .entry))
-        (now (tallies .entry))) ⌝ }
+        (now (tallies .entry))
+        (now (carried .entry))) ⌝ }
 {
     let fit = tables::all_fit(
         caps,
@@ -112,8 +142,12 @@ pub fn rebuild(
         owners.len(),
         batch.len(),
         tallies.len(),
+        carried.len(),
     );
-    if !tables::both(fit, row_locations.len() == ids.len()) {
+    if !tables::both(
+        fit,
+        rows_fit(ids.len(), row_locations.len(), row_carried.len()),
+    ) {
         return Finished::Refused(Refusal::of(Refusal::WRONG_SHAPE));
     }
     let wrong = rebuild_rows::first_refused(caps, ids, row_locations);
@@ -129,8 +163,10 @@ pub fn rebuild(
         owners,
         batch,
         tallies,
+        carried,
         ids,
         row_locations,
+        row_carried,
     );
     Finished::Done
 }

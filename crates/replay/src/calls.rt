@@ -1,6 +1,7 @@
 // A file of single calls: nothing is carried from line to line.
 use crate::numbers;
 use crate::slots;
+use crate::snapshots;
 use replay_words::file;
 use replay_words::line;
 use replay_words::tally::Tally;
@@ -23,6 +24,10 @@ const COOKIE: u64 = 8;
 
 const UNCOOKIE: u64 = 9;
 
+const STEP: u64 = 10;
+
+const READ: u64 = 11;
+
 fn agrees(line: &[u8]) -> bool {
     match line::kind(line) {
         CLASS => numbers::class(line),
@@ -34,6 +39,8 @@ fn agrees(line: &[u8]) -> bool {
         UNFRAME => slots::unframe(line),
         COOKIE => slots::cookie(line),
         UNCOOKIE => slots::uncookie(line),
+        STEP => snapshots::step(line),
+        READ => snapshots::read(line),
         _ => false,
     }
 }

@@ -7,8 +7,10 @@ mod calls;
 mod numbers;
 mod said;
 mod slots;
+mod snapshots;
 
 fn main() {
     calls::file(b"leaves.words");
     calls::file(b"cutoffs.words");
+    calls::file(b"snapshots.words");
 }

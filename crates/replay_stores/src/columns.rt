@@ -44,9 +44,22 @@ pub fn are_stores(line: &[u8], from: usize, n: usize) -> [bool; MOST]
 }
 
 // Whether a column's first rows are the n words from word `from` on.
-pub fn hold(line: &[u8], from: u32, column: &[u64; MOST], n: usize) -> bool
-    requires { ⌜ n ≤ 512 ⌝ }
-{
+pub fn hold(line: &[u8], from: u32, column: &[u64; MOST], n: usize) -> bool {
+    if MOST < n {
+        return false;
+    }
     let all: &[u64] = column;
     rows::hold(line, from, &all[0..n])
+}
+
+// What n rows carry: the words from word `from` on, byte for byte; nothing where the line has not so many.
+pub fn carried(line: &[u8], from: usize, n: usize) -> &[u8]
+    requires { ⌜ (from ≤ 2048) × (n ≤ 512) ⌝ }
+{
+    let start = 8 * from;
+    let end = start + 8 * n;
+    if line.len() < end {
+        return &line[0..0];
+    }
+    &line[start..end]
 }

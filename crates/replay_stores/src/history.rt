@@ -1,19 +1,24 @@
-// A file of histories. The six tables are all that is carried from line to line; a line STORE says the capacities from there on.
+// A file of histories. The seven tables are all that is carried from line to line; a line STORE says the capacities from there on.
 ghost use Prim.Native.Nat.{_≤_};
 use crate::columns;
 use crate::columns::ANY;
 use crate::columns::MOST;
 use crate::kinds;
 use crate::lines;
+use carried::WIDTH;
 use replay_words::file;
 use replay_words::line;
 use replay_words::tally::Tally;
 use tables::BATCH_WORDS;
+use tables::MOST_UPDATES;
 use tables::SLABS;
 use tables::TALLY_WORDS;
 
 // The most slots that the 78 slabs of a store have.
 const MOST_SLOTS: usize = 39936;
+
+// The most bytes that rows carry: of 512 ids and 256 kept updates.
+const MOST_CARRIED: usize = (MOST + MOST_UPDATES) * WIDTH;
 
 // The tables as they are lent to the first call, which has to write every word of them.
 const ANY_MARK: u8 = 165;
@@ -49,6 +54,7 @@ fn each_line(name: &[u8], text: &[u8]) -> Tally {
     let mut owners = owners();
     let mut batch = [ANY; BATCH_WORDS];
     let mut tallies = [ANY; TALLY_WORDS];
+    let mut carried = [ANY_MARK; MOST_CARRIED];
     let mut ids = 0;
     let mut slots = 0;
     let mut tally = Tally::new();
@@ -60,6 +66,7 @@ fn each_line(name: &[u8], text: &[u8]) -> Tally {
         ids = capacity(line, 3, ids);
         slots = capacity(line, 4, slots);
         let all = slots * SLABS;
+        let rows = (ids + MOST_UPDATES) * WIDTH;
         let agrees = lines::agrees(
             ids,
             slots,
@@ -69,6 +76,7 @@ fn each_line(name: &[u8], text: &[u8]) -> Tally {
             &mut owners[0..all],
             &mut batch,
             &mut tallies,
+            &mut carried[0..rows],
             line,
         );
         tally = tally.with_line(name, line, agrees);

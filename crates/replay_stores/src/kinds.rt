@@ -40,3 +40,9 @@ pub const POKE_OWNERS: u64 = 19;
 pub const POKE_BATCH: u64 = 20;
 
 pub const POKE_TALLIES: u64 = 21;
+
+pub const POKE_CARRIED: u64 = 23;
+
+pub const SNAPSHOT_LENGTH: u64 = 24;
+
+pub const SNAPSHOT_WRITE: u64 = 25;

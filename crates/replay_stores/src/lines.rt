@@ -16,6 +16,7 @@ pub fn agrees(
     owners: &mut [u64],
     batch: &mut [u64],
     tallies: &mut [u64],
+    carried: &mut [u8],
     line: &[u8],
 ) -> bool {
     match line::kind(line) {
@@ -27,6 +28,7 @@ pub fn agrees(
         kinds::POKE_OWNERS => pokes::put_word(owners, line),
         kinds::POKE_BATCH => pokes::put_word(batch, line),
         kinds::POKE_TALLIES => pokes::put_word(tallies, line),
+        kinds::POKE_CARRIED => pokes::put_row(carried, line),
         kinds::FRESH => {
             line::says(
                 line,
@@ -39,6 +41,7 @@ pub fn agrees(
                     owners,
                     batch,
                     tallies,
+                    carried,
                 ),
             )
         }
@@ -54,6 +57,7 @@ pub fn agrees(
                     owners,
                     batch,
                     tallies,
+                    carried,
                 ),
             )
         }
@@ -67,6 +71,7 @@ pub fn agrees(
                 owners,
                 batch,
                 tallies,
+                carried,
                 line,
             )
         }
@@ -80,6 +85,7 @@ pub fn agrees(
                 owners,
                 batch,
                 tallies,
+                carried,
                 line,
             )
         }
@@ -110,6 +116,7 @@ pub fn agrees(
                 owners,
                 batch,
                 tallies,
+                carried,
                 line,
             )
         }

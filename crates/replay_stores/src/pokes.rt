@@ -24,6 +24,9 @@ const TALLIES: u64 = 5;
 // Words of the tallies that are read as 0 or 1.
 const USED: u64 = 6;
 
+// A row of what rows carry, as a number.
+const CARRIED: u64 = 7;
+
 pub fn put_mark(marks: &mut [u8], line: &[u8]) -> bool {
     let at = line::word(line, 3) as usize;
     let mark = (line::word(line, 4) % 256) as u8;
@@ -34,6 +37,15 @@ pub fn put_mark(marks: &mut [u8], line: &[u8]) -> bool {
 pub fn put_word(words: &mut [u64], line: &[u8]) -> bool {
     let at = line::word(line, 3) as usize;
     tables::put(words, 0, at, line::word(line, 4));
+    true
+}
+
+// The row of what an id or a kept update carries.
+pub fn put_row(carried: &mut [u8], line: &[u8]) -> bool {
+    let at = line::word(line, 3) as usize;
+    let mut row = [0u8; carried::WIDTH];
+    little_endian::put(&mut row, line::word(line, 4));
+    carried::put_row(carried, at, &row);
     true
 }
 
@@ -70,6 +82,10 @@ fn is_used(tallies: &[u64], at: usize, value: u64) -> bool {
     }
 }
 
+fn is_row(carried: &[u8], at: usize, value: u64) -> bool {
+    little_endian::get(carried::row(carried, at)) == value
+}
+
 pub fn peek(
     id_marks: &[u8],
     locations: &[u64],
@@ -77,6 +93,7 @@ pub fn peek(
     owners: &[u64],
     batch: &[u64],
     tallies: &[u64],
+    carried: &[u8],
     line: &[u8],
 ) -> bool {
     let at = line::word(line, 4) as usize;
@@ -89,6 +106,7 @@ pub fn peek(
         BATCH => is_word(batch, at, value),
         TALLIES => is_word(tallies, at, value),
         USED => is_used(tallies, at, value),
+        CARRIED => is_row(carried, at, value),
         _ => false,
     }
 }

@@ -1,4 +1,4 @@
-// Lines that only read: lookups, lists of what to move, counters, and peeks.
+// Lines that only read: lookups, lists of what to move, counters, snapshots, and peeks.
 ghost use Prim.Native.Nat.{_≤_};
 use crate::columns;
 use crate::kinds;
@@ -15,9 +15,11 @@ fn lookup(
     slot_marks: &[u8],
     owners: &[u64],
     tallies: &[u64],
+    carried: &[u8],
     line: &[u8],
 ) -> bool {
     let mut v = [0u64; 1];
+    let mut row = [0u8; carried::WIDTH];
     let status = exports::wentuhoro_lookup(
         ids,
         slots,
@@ -26,10 +28,12 @@ fn lookup(
         slot_marks,
         owners,
         tallies,
-        line::word(line, 5),
+        carried,
+        line::word(line, 6),
         &mut v,
+        &mut row,
     );
-    line::says_one(line, status, v[0])
+    line::says_two(line, status, v[0], little_endian::get(&row))
 }
 
 // A list that a defrag is lent has a row for each id above 0.
@@ -97,6 +101,99 @@ fn counted(ids: usize, slots: usize, tallies: &[u64], line: &[u8]) -> bool {
         & (freed[allocator] == line::word(line, 5))
 }
 
+fn snapshot_length(
+    ids: usize,
+    slots: usize,
+    id_marks: &[u8],
+    locations: &[u64],
+    batch: &[u64],
+    tallies: &[u64],
+    line: &[u8],
+) -> bool {
+    let mut v = [0u64; 1];
+    let status = exports::wentuhoro_snapshot_length(
+        ids,
+        slots,
+        id_marks,
+        locations,
+        batch,
+        tallies,
+        &mut v,
+    );
+    line::says_one(line, status, v[0])
+}
+
+// The bytes that a snapshot of so many ids takes, and more.
+const MOST_BYTES: usize = 16384;
+
+// How long a file is lent; where the line says more than there can be, none is, and the call differs.
+fn lent_bytes(line: &[u8]) -> usize
+    ensures { λ r. ⌜ r ≤ 16384 ⌝ }
+{
+    let n = line::word(line, 5);
+    if n <= MOST_BYTES as u64 {
+        n as usize
+    } else {
+        0
+    }
+}
+
+// A block of a snapshot, and its bytes before the check.
+const BLOCK: usize = 512;
+
+const BODY: usize = 508;
+
+// The check of ISO 3309 over the blocks' bodies, one after the other. Over whole blocks it would say nothing of the rows, since each block ends in its own.
+fn check_of_bodies(file: &[u8]) -> u32 {
+    let mut register = 0xFFFF_FFFFu32;
+    let mut at = 0;
+    while BLOCK <= file.len() - at {
+        let end = at + BODY;
+        register = exports::wentuhoro_crc32_update(register, &file[at..end]);
+        at += BLOCK;
+    }
+    register ^ 0xFFFF_FFFF
+}
+
+// Of the file that was written; 0 where none was.
+fn check_of(status: u64, file: &[u8]) -> u64 {
+    if status == 0 {
+        check_of_bodies(file) as u64
+    } else {
+        0
+    }
+}
+
+fn snapshot_write(
+    ids: usize,
+    slots: usize,
+    id_marks: &[u8],
+    locations: &[u64],
+    slot_marks: &[u8],
+    owners: &[u64],
+    batch: &[u64],
+    tallies: &[u64],
+    carried: &[u8],
+    line: &[u8],
+) -> bool {
+    let mut space = [0u8; MOST_BYTES];
+    let n = lent_bytes(line);
+    let file = &mut space[0..n];
+    let status = exports::wentuhoro_snapshot_write(
+        ids,
+        slots,
+        id_marks,
+        locations,
+        slot_marks,
+        owners,
+        batch,
+        tallies,
+        carried,
+        file,
+    );
+    line::says_one(line, status, check_of(status, file))
+}
+
 pub fn agrees(
     ids: usize,
     slots: usize,
@@ -106,6 +203,7 @@ pub fn agrees(
     owners: &[u64],
     batch: &[u64],
     tallies: &[u64],
+    carried: &[u8],
     line: &[u8],
 ) -> bool {
     match line::kind(line) {
@@ -118,6 +216,7 @@ pub fn agrees(
                 slot_marks,
                 owners,
                 tallies,
+                carried,
                 line,
             )
         }
@@ -143,6 +242,24 @@ pub fn agrees(
                 owners,
                 batch,
                 tallies,
+                carried,
+                line,
+            )
+        }
+        kinds::SNAPSHOT_LENGTH => {
+            snapshot_length(ids, slots, id_marks, locations, batch, tallies, line)
+        }
+        kinds::SNAPSHOT_WRITE => {
+            snapshot_write(
+                ids,
+                slots,
+                id_marks,
+                locations,
+                slot_marks,
+                owners,
+                batch,
+                tallies,
+                carried,
                 line,
             )
         }

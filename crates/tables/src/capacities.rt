@@ -3,10 +3,12 @@ ghost use mathlib.Core.Path.{_≡_};
 ghost use mathlib.Core.Bool.{_&&_};
 ghost use Prim.Native.Nat.{_*_};
 ghost use lib.Dec.{eqb};
-ghost use Rattle.model.specs.Tables.{capacities, badIds};
+ghost use Rattle.model.specs.Tables.{capacities, badIds, carriedBytes};
 ghost use Rattle.address.specs.Address.{slabs};
+use crate::MOST_UPDATES;
 use crate::SLABS;
 use crate::both;
+use carried::WIDTH;
 
 pub struct Capacities {
     pub ids: usize,
@@ -46,5 +48,15 @@ impl Capacities {
             return false;
         }
         length == SLABS * self.slots
+    }
+
+    // The same of the column of what rows carry: a row for each id, then one for each kept update.
+    pub fn carried_fits(self, length: usize) -> bool
+        ensures { λ r. ⌜ r ≡ (capacities (self .ids) (self .slots) && eqb length (carriedBytes (self .ids))) ⌝ }
+    {
+        if !self.good() {
+            return false;
+        }
+        length == (self.ids + MOST_UPDATES) * WIDTH
     }
 }

@@ -1,9 +1,10 @@
-// The six tables that a store is lent, and what they say of one id, one slot, one allocator (document 01, "Ids, slots, pending").
+// The seven tables that a store is lent, and what they say of one id, one slot, one allocator (document 01, "Ids, slots, pending").
 //
 //     let caps = Capacities { ids: 9, slots: 8 };
 //     // id_marks: [u8; 9], locations: [u64; 9], slot_marks: [u8; tables::SLABS * 8], owners: [u64; tables::SLABS * 8],
-//     // batch: [u64; tables::BATCH_WORDS], tallies: [u64; tables::TALLY_WORDS]
-//     heap::fresh(caps, &mut id_marks, &mut locations, &mut slot_marks, &mut owners, &mut batch, &mut tallies);
+//     // batch: [u64; tables::BATCH_WORDS], tallies: [u64; tables::TALLY_WORDS],
+//     // carried: [u8; (9 + tables::MOST_UPDATES) * carried::WIDTH]
+//     rebuild::fresh(caps, &mut id_marks, &mut locations, &mut slot_marks, &mut owners, &mut batch, &mut tallies, &mut carried);
 //
 // Any contents have a meaning; no function here asks anything of its caller.
 mod capacities;
@@ -21,11 +22,13 @@ pub use entries::slab_marks;
 pub use shapes::all_fit;
 pub use shapes::all_hold;
 pub use shapes::both;
+pub use shapes::carries;
 pub use shapes::defrag_fits;
 pub use shapes::lookup_fits;
 pub use shapes::new_id_fits;
 pub use shapes::release_fits;
 pub use shapes::slab_fits;
+pub use shapes::stored_fits;
 pub use shapes::tallies_fit;
 pub use words::add;
 pub use words::get;

@@ -1,10 +1,12 @@
 // Document 01, "Run whole": eight objects of three bytes stored in order, five freed and released, and what is to be moved then.
 use address::SlabAddress;
 use address::Unpacked;
+use carried::WIDTH;
 use defrag::Defrag;
 use libc::STDOUT_FILENO;
 use tables::BATCH_WORDS;
 use tables::Capacities;
+use tables::MOST_UPDATES;
 use tables::SLABS;
 use tables::TALLY_WORDS;
 
@@ -76,9 +78,11 @@ fn batch_of(
     owners: &mut [u64],
     batch: &mut [u64],
     tallies: &mut [u64],
+    carried: &mut [u8],
     ids: &[u64],
     stores: &[bool],
     lengths: &[u64],
+    update_carried: &[u8],
     placed: &mut [u64],
 ) {
     offer::offer(
@@ -89,9 +93,11 @@ fn batch_of(
         owners,
         batch,
         tallies,
+        carried,
         ids,
         stores,
         lengths,
+        update_carried,
         placed,
     );
     commit::commit(
@@ -102,6 +108,7 @@ fn batch_of(
         owners,
         batch,
         tallies,
+        carried,
     );
 }
 
@@ -135,6 +142,7 @@ fn main() {
     let mut owners = [0u64; SLABS * 8];
     let mut batch = [0u64; BATCH_WORDS];
     let mut tallies = [0u64; TALLY_WORDS];
+    let mut carried = [0u8; (9 + MOST_UPDATES) * WIDTH];
     rebuild::fresh(
         caps(),
         &mut id_marks,
@@ -143,6 +151,7 @@ fn main() {
         &mut owners,
         &mut batch,
         &mut tallies,
+        &mut carried,
     );
     eight_ids(&mut id_marks, &batch, &mut tallies);
     batch_of(
@@ -152,9 +161,11 @@ fn main() {
         &mut owners,
         &mut batch,
         &mut tallies,
+        &mut carried,
         &[1, 2, 3, 4, 5, 6, 7, 8],
         &[true, true, true, true, true, true, true, true],
         &[3, 3, 3, 3, 3, 3, 3, 3],
+        &[0; 8 * WIDTH],
         &mut [0; 8],
     );
     batch_of(
@@ -164,9 +175,11 @@ fn main() {
         &mut owners,
         &mut batch,
         &mut tallies,
+        &mut carried,
         &[1, 2, 3, 5, 7],
         &[false, false, false, false, false],
         &[0, 0, 0, 0, 0],
+        &[0; 5 * WIDTH],
         &mut [0; 5],
     );
     release::release(caps(), &mut id_marks, &mut slot_marks, &batch, &mut tallies);

@@ -5,9 +5,7 @@ use Prim.Native.Nat.{ℕ, _+_, _-_, _<_, _≤_}
 use native.Mathlib.Nat.{sub-zero}
 use native.Mathlib.Omega.{arith}
 use lib.ListN.{length}
-use Rattle.model.specs.Memory.{Memory}
-use Rattle.model.specs.Store as S
-use Rattle.model.specs.Lent.{lentTo}
+use Rattle.model.specs.Memory.{Memory, memoryOf}
 use Rattle.model.specs.MemoryAfter.{commitAll}
 use Rattle.batch_kept.specs.Kept.{keptFrom}
 use Rattle.commit.proofs.LawsApply.{commit-turn, commit-none}
@@ -29,8 +27,8 @@ Inv-loop caps id-marks₀ locations₀ slot-marks₀ owners₀ batch tallies₀ 
     × (length slot-marks ≡ length slot-marks₀)
     × (length owners ≡ length owners₀)
     × (length tallies ≡ length tallies₀)
-    × (commitAll (lentTo S.commit (caps .ids) (caps .slots) id-marks locations slot-marks owners batch tallies) (keptFrom batch (n - i) i)
-    ≡ commitAll (lentTo S.commit (caps .ids) (caps .slots) id-marks₀ locations₀ slot-marks₀ owners₀ batch tallies₀) (keptFrom batch n 0))
+    × (commitAll (memoryOf (caps .ids) (caps .slots) id-marks locations slot-marks owners batch tallies) (keptFrom batch (n - i) i)
+    ≡ commitAll (memoryOf (caps .ids) (caps .slots) id-marks₀ locations₀ slot-marks₀ owners₀ batch tallies₀) (keptFrom batch n 0))
 
 abbrev μ-loop : tie.MeasureT-loop
 μ-loop caps id-marks₀ locations₀ slot-marks₀ owners₀ batch tallies₀ n i₀ id-marks locations slot-marks owners tallies i = n - i
@@ -51,7 +49,7 @@ loop-again : tie.Need-loop-again Inv-loop μ-loop
 loop-again c =
     let a = c .before .before .before .before .before .before .before .before .before .before .before .before .before .before .before .before .before .before .before .before .before .before .before .before .args in
     let l = c .before .before .before .before .before .before .before .before .before .before .before .before .before .before .before .before .before .loop in
-    let m : Memory = lentTo S.commit (a .caps .ids) (a .caps .slots) (l .id-marks) (l .locations) (l .slot-marks) (l .owners) (a .batch .now) (l .tallies) in (
+    let m : Memory = memoryOf (a .caps .ids) (a .caps .slots) (l .id-marks) (l .locations) (l .slot-marks) (l .owners) (a .batch .now) (l .tallies) in (
       one-left _ _ (c .before .before .before .before .before .before .before .before .before .before .before .before .before .before .before .before .loop-test .taken),
       c .before .before .before .before .before .before .before .before .before .id-marks .given ∙ l .inv .1,
       c .before .before .before .before .before .before .before .locations .given ∙ l .inv .2,

@@ -19,9 +19,9 @@ of-requires c κs = search
 
 returns : tie.Need-returns
 returns c =
-    let a = c .before .before .before .before .before .before .before .before .before .before .before .before .before .args in
-    let m = lentBy everyTable (a .caps .ids) (a .caps .slots) (a .id-marks .now) (a .locations .now) (a .slot-marks .now) (a .owners .now) (a .batch .now) (a .tallies .now) in
-    let o : Offer = record { ids = a .ids .now; stores = a .stores .now; lengths = a .lengths .now; placed = a .placed .now } in
+    let a = c .before .before .before .before .before .before .before .before .before .before .before .before .before .before .before .args in
+    let m = lentBy everyTable (a .caps .ids) (a .caps .slots) (a .id-marks .now) (a .locations .now) (a .slot-marks .now) (a .owners .now) (a .batch .now) (a .tallies .now) (a .carried .now) in
+    let o : Offer = record { ids = a .ids .now; stores = a .stores .now; lengths = a .lengths .now; carried = a .update-carried .now; placed = a .placed .now } in
     leaves-as m o (c .of .result) 1 (c .of .ensures) (refused-shape m o (fits-failed m o (c .before .before .fits2 .result) (c .before .before .fits2 .ensures) (c .before .if1 .taken)))
 
 get-requires : tie.Need-get-requires
@@ -35,9 +35,9 @@ same-length c = search
 
 returns-2 : tie.Need-returns-2
 returns-2 c =
-    let a = c .before .before .before .before .before .before .before .before .before .before .before .before .before .before .before .before .args in
-    let m = lentBy everyTable (a .caps .ids) (a .caps .slots) (a .id-marks .now) (a .locations .now) (a .slot-marks .now) (a .owners .now) (a .batch .now) (a .tallies .now) in
-    let o : Offer = record { ids = a .ids .now; stores = a .stores .now; lengths = a .lengths .now; placed = a .placed .now } in
+    let a = c .before .before .before .before .before .before .before .before .before .before .before .before .before .before .before .before .before .before .args in
+    let m = lentBy everyTable (a .caps .ids) (a .caps .slots) (a .id-marks .now) (a .locations .now) (a .slot-marks .now) (a .owners .now) (a .batch .now) (a .tallies .now) (a .carried .now) in
+    let o : Offer = record { ids = a .ids .now; stores = a .stores .now; lengths = a .lengths .now; carried = a .update-carried .now; placed = a .placed .now } in
     let e = fits-told m o (c .before .before .before .before .before .fits2 .result) (c .before .before .before .before .before .fits2 .ensures) (c .before .before .before .before .if1 .left) in
     leaves-as m o (c .of2 .result) 11 (c .of2 .ensures) (refused-open m o e (λ q. c .before .if2 .taken (c .before .before .get .ensures ∙ q)))
 
@@ -49,9 +49,9 @@ same-length-2 c = search
 
 returns-3 : tie.Need-returns-3
 returns-3 c =
-    let a = c .before .before .before .before .before .before .before .before .before .before .before .before .before .before .before .before .before .args in
-    let m = lentBy everyTable (a .caps .ids) (a .caps .slots) (a .id-marks .now) (a .locations .now) (a .slot-marks .now) (a .owners .now) (a .batch .now) (a .tallies .now) in
-    let o : Offer = record { ids = a .ids .now; stores = a .stores .now; lengths = a .lengths .now; placed = a .placed .now } in
+    let a = c .before .before .before .before .before .before .before .before .before .before .before .before .before .before .before .before .before .before .before .args in
+    let m = lentBy everyTable (a .caps .ids) (a .caps .slots) (a .id-marks .now) (a .locations .now) (a .slot-marks .now) (a .owners .now) (a .batch .now) (a .tallies .now) (a .carried .now) in
+    let o : Offer = record { ids = a .ids .now; stores = a .stores .now; lengths = a .lengths .now; carried = a .update-carried .now; placed = a .placed .now } in
     let e = fits-told m o (c .before .before .before .before .before .before .fits2 .result) (c .before .before .before .before .before .before .fits2 .ensures) (c .before .before .before .before .before .if1 .left) in
     let z = c .before .before .if2 .left in
     leaves-as m o (c .of3 .result) 15 (c .of3 .ensures) (refused-many m o e (sym (c .before .before .before .get .ensures) ∙ z) (c .before .if3 .taken))
@@ -64,9 +64,9 @@ array-share-prefix-all c = search needs
 
 slice-aggregate-slabs : tie.Need-slice-aggregate-slabs
 slice-aggregate-slabs c =
-    let a = c .before .before .before .before .before .before .before .before .before .before .before .before .before .before .before .before .before .before .args in
-    let m = lentBy everyTable (a .caps .ids) (a .caps .slots) (a .id-marks .now) (a .locations .now) (a .slot-marks .now) (a .owners .now) (a .batch .now) (a .tallies .now) in
-    let o : Offer = record { ids = a .ids .now; stores = a .stores .now; lengths = a .lengths .now; placed = a .placed .now } in
+    let a = c .before .before .before .before .before .before .before .before .before .before .before .before .before .before .before .before .before .before .before .before .args in
+    let m = lentBy everyTable (a .caps .ids) (a .caps .slots) (a .id-marks .now) (a .locations .now) (a .slot-marks .now) (a .owners .now) (a .batch .now) (a .tallies .now) (a .carried .now) in
+    let o : Offer = record { ids = a .ids .now; stores = a .stores .now; lengths = a .lengths .now; carried = a .update-carried .now; placed = a .placed .now } in
     let e = fits-told m o (c .before .before .before .before .before .before .before .fits2 .result) (c .before .before .before .before .before .before .before .fits2 .ensures) (c .before .before .before .before .before .before .if1 .left) in
     let few = c .before .before .if3 .left in
     sym (kinds-long m o e few (c .before .kinds .result) (c .before .kinds .ensures))
@@ -88,9 +88,9 @@ same-length-5 c = search
 
 returns-4 : tie.Need-returns-4
 returns-4 c =
-    let a = c .before .before .before .before .before .before .before .before .before .before .before .before .before .before .before .before .before .before .before .before .before .before .before .before .args in
-    let m = lentBy everyTable (a .caps .ids) (a .caps .slots) (a .id-marks .now) (a .locations .now) (a .slot-marks .now) (a .owners .now) (a .batch .now) (a .tallies .now) in
-    let o : Offer = record { ids = a .ids .now; stores = a .stores .now; lengths = a .lengths .now; placed = a .placed .now } in
+    let a = c .before .before .before .before .before .before .before .before .before .before .before .before .before .before .before .before .before .before .before .before .before .before .before .before .before .before .args in
+    let m = lentBy everyTable (a .caps .ids) (a .caps .slots) (a .id-marks .now) (a .locations .now) (a .slot-marks .now) (a .owners .now) (a .batch .now) (a .tallies .now) (a .carried .now) in
+    let o : Offer = record { ids = a .ids .now; stores = a .stores .now; lengths = a .lengths .now; carried = a .update-carried .now; placed = a .placed .now } in
     let e = fits-told m o (c .before .before .before .before .before .before .before .before .before .before .before .before .before .fits2 .result) (c .before .before .before .before .before .before .before .before .before .before .before .before .before .fits2 .ensures) (c .before .before .before .before .before .before .before .before .before .before .before .before .if1 .left) in
     let z = c .before .before .before .before .before .before .before .before .before .if2 .left in
     let few = c .before .before .before .before .before .before .before .before .if3 .left in
@@ -110,6 +110,9 @@ add-keep c = search needs
 keep-requires : tie.Need-keep-requires
 keep-requires c κs = search
 
+put-rows-requires : tie.Need-put-rows-requires
+put-rows-requires c κs = search
+
 same-length-6 : tie.Need-same-length-6
 same-length-6 c = search
 
@@ -122,19 +125,22 @@ same-length-8 c = search
 same-length-9 : tie.Need-same-length-9
 same-length-9 c = search
 
+same-length-10 : tie.Need-same-length-10
+same-length-10 c = search
+
 returns-5 : tie.Need-returns-5
 returns-5 c =
-    let a = c .before .before .before .before .before .before .before .before .before .before .before .before .before .before .before .before .before .before .before .before .before .before .before .before .before .before .before .before .before .before .before .before .before .before .before .before .before .before .args in
-    let m = lentBy everyTable (a .caps .ids) (a .caps .slots) (a .id-marks .now) (a .locations .now) (a .slot-marks .now) (a .owners .now) (a .batch .now) (a .tallies .now) in
-    let o : Offer = record { ids = a .ids .now; stores = a .stores .now; lengths = a .lengths .now; placed = a .placed .now } in
-    let e = fits-told m o (c .before .before .before .before .before .before .before .before .before .before .before .before .before .before .before .before .before .before .before .before .before .before .before .before .before .before .before .fits2 .result) (c .before .before .before .before .before .before .before .before .before .before .before .before .before .before .before .before .before .before .before .before .before .before .before .before .before .before .before .fits2 .ensures) (c .before .before .before .before .before .before .before .before .before .before .before .before .before .before .before .before .before .before .before .before .before .before .before .before .before .before .if1 .left) in
-    let z = c .before .before .before .before .before .before .before .before .before .before .before .before .before .before .before .before .before .before .before .before .before .before .before .if2 .left in
-    let few = c .before .before .before .before .before .before .before .before .before .before .before .before .before .before .before .before .before .before .before .before .before .before .if3 .left in
-    let r = c .before .before .before .before .before .before .before .before .before .before .before .before .before .before .before .before .before .before .before .before .before .kinds .result in
+    let a = c .before .before .before .before .before .before .before .before .before .before .before .before .before .before .before .before .before .before .before .before .before .before .before .before .before .before .before .before .before .before .before .before .before .before .before .before .before .before .before .before .before .before .before .before .args in
+    let m = lentBy everyTable (a .caps .ids) (a .caps .slots) (a .id-marks .now) (a .locations .now) (a .slot-marks .now) (a .owners .now) (a .batch .now) (a .tallies .now) (a .carried .now) in
+    let o : Offer = record { ids = a .ids .now; stores = a .stores .now; lengths = a .lengths .now; carried = a .update-carried .now; placed = a .placed .now } in
+    let e = fits-told m o (c .before .before .before .before .before .before .before .before .before .before .before .before .before .before .before .before .before .before .before .before .before .before .before .before .before .before .before .before .before .before .before .fits2 .result) (c .before .before .before .before .before .before .before .before .before .before .before .before .before .before .before .before .before .before .before .before .before .before .before .before .before .before .before .before .before .before .before .fits2 .ensures) (c .before .before .before .before .before .before .before .before .before .before .before .before .before .before .before .before .before .before .before .before .before .before .before .before .before .before .before .before .before .before .if1 .left) in
+    let z = c .before .before .before .before .before .before .before .before .before .before .before .before .before .before .before .before .before .before .before .before .before .before .before .before .before .before .before .if2 .left in
+    let few = c .before .before .before .before .before .before .before .before .before .before .before .before .before .before .before .before .before .before .before .before .before .before .before .before .before .before .if3 .left in
+    let r = c .before .before .before .before .before .before .before .before .before .before .before .before .before .before .before .before .before .before .before .before .before .before .before .before .before .kinds .result in
     let ks = take (length (a .ids .now)) r in
-    let κ = kinds-told m o e few r (c .before .before .before .before .before .before .before .before .before .before .before .before .before .before .before .before .before .before .before .before .before .kinds .ensures) in
-    let g = rest-told m o e (sym (c .before .before .before .before .before .before .before .before .before .before .before .before .before .before .before .before .before .before .before .before .before .before .before .before .get .ensures) ∙ z) few ks κ _ (c .before .before .before .before .before .before .before .before .before .before .before .before .before .before .before .before .before .refused .ensures) ∙ ap judgedVerdict (c .before .before .before .before .before .before .before .before .before .before .before .before .before .before .before .enum-told .given .1) in
-    leaves-done m o e (sym (c .before .before .before .before .before .before .before .before .before .before .before .before .before .before .before .before .before .before .before .before .before .before .before .before .get .ensures) ∙ z) few ks κ _ _ _ _ g (c .before .before .before .before .before .before .before .before .before .before .before .place .ensures .0) (c .before .before .before .before .before .before .before .before .before .before .before .place .ensures .1) (c .before .before .keep .ensures)
+    let κ = kinds-told m o e few r (c .before .before .before .before .before .before .before .before .before .before .before .before .before .before .before .before .before .before .before .before .before .before .before .before .before .kinds .ensures) in
+    let g = rest-told m o e (sym (c .before .before .before .before .before .before .before .before .before .before .before .before .before .before .before .before .before .before .before .before .before .before .before .before .before .before .before .before .get .ensures) ∙ z) few ks κ _ (c .before .before .before .before .before .before .before .before .before .before .before .before .before .before .before .before .before .before .before .before .before .refused .ensures) ∙ ap judgedVerdict (c .before .before .before .before .before .before .before .before .before .before .before .before .before .before .before .before .before .before .before .enum-told .given .1) in
+    leaves-done m o e (sym (c .before .before .before .before .before .before .before .before .before .before .before .before .before .before .before .before .before .before .before .before .before .before .before .before .before .before .before .before .get .ensures) ∙ z) few ks κ _ _ _ _ _ g (c .before .before .before .before .before .before .before .before .before .before .before .before .before .before .before .place .ensures .0) (c .before .before .before .before .before .before .before .before .before .before .before .before .before .before .before .place .ensures .1) (c .before .before .before .before .before .before .keep .ensures) (c .before .before .put-rows .ensures)
 
 pub offer-spec : {M : Type 1} → statement M
 offer-spec =
@@ -163,8 +169,10 @@ offer-spec =
     place-requires
     add-keep
     keep-requires
+    put-rows-requires
     same-length-6
     same-length-7
     same-length-8
     same-length-9
+    same-length-10
     returns-5)

@@ -16,8 +16,8 @@ of-requires c κs = search
 
 returns : tie.Need-returns
 returns c =
-    let a = c .before .before .before .before .before .before .before .before .before .args in
-    let m = lentTo S.fresh (a .caps .ids) (a .caps .slots) (now (a .id-marks)) (now (a .locations)) (now (a .slot-marks)) (now (a .owners)) (now (a .batch)) (now (a .tallies)) in
+    let a = c .before .before .before .before .before .before .before .before .before .before .args in
+    let m = lentTo S.fresh (a .caps .ids) (a .caps .slots) (now (a .id-marks)) (now (a .locations)) (now (a .slot-marks)) (now (a .owners)) (now (a .batch)) (now (a .tallies)) (now (a .carried)) in
     let f = fresh-refused m (c .before .before .all-fit .ensures) (c .before .if1 .taken) in
     (ap refusedAs (c .of .ensures) ∙ f .0, f .1)
 
@@ -42,11 +42,14 @@ same-length-5 c = search
 same-length-6 : tie.Need-same-length-6
 same-length-6 c = search
 
+same-length-7 : tie.Need-same-length-7
+same-length-7 c = search
+
 returns-2 : tie.Need-returns-2
 returns-2 c =
-    let a = c .before .before .before .before .before .before .before .before .before .before .before .before .before .before .before .before .before .before .before .before .before .before .before .before .before .before .before .args in
-    let m = lentTo S.fresh (a .caps .ids) (a .caps .slots) (now (a .id-marks)) (now (a .locations)) (now (a .slot-marks)) (now (a .owners)) (now (a .batch)) (now (a .tallies)) in
-    fresh-granted m (c .before .before .before .before .before .before .before .before .before .before .before .before .before .before .before .before .before .before .before .before .all-fit .ensures) (c .before .before .before .before .before .before .before .before .before .before .before .before .before .before .before .before .before .before .before .if1 .left) (c .before .before .before .before .before .before .before .before .before .before .before .before .all .ensures)
+    let a = c .before .before .before .before .before .before .before .before .before .before .before .before .before .before .before .before .before .before .before .before .before .before .before .before .before .before .before .before .before .before .before .args in
+    let m = lentTo S.fresh (a .caps .ids) (a .caps .slots) (now (a .id-marks)) (now (a .locations)) (now (a .slot-marks)) (now (a .owners)) (now (a .batch)) (now (a .tallies)) (now (a .carried)) in
+    fresh-granted m (c .before .before .before .before .before .before .before .before .before .before .before .before .before .before .before .before .before .before .before .before .before .before .before .all-fit .ensures) (c .before .before .before .before .before .before .before .before .before .before .before .before .before .before .before .before .before .before .before .before .before .before .if1 .left) (c .before .before .before .before .before .before .before .before .before .before .before .before .before .before .all .ensures)
 
 pub fresh-spec : {M : Type 1} → statement M
 fresh-spec =
@@ -62,4 +65,5 @@ fresh-spec =
     same-length-4
     same-length-5
     same-length-6
+    same-length-7
     returns-2)

@@ -11,6 +11,9 @@ use Rattle.rebuild.proofs.rebuild.Tie as tie
 all-fit-requires : tie.Need-all-fit-requires
 all-fit-requires c κs = search
 
+rows-fit-requires : tie.Need-rows-fit-requires
+rows-fit-requires c κs = search
+
 both-requires : tie.Need-both-requires
 both-requires c κs = search
 
@@ -19,11 +22,12 @@ of-requires c κs = search
 
 returns : tie.Need-returns
 returns c =
-    let a = c .before .before .before .before .before .before .before .before .before .before .before .before .args in
+    let a = c .before .before .before .before .before .before .before .before .before .before .before .before .before .before .before .args in
     let is = now (a .ids) in
     let ls = now (a .row-locations) in
-    let m = lentTo (S.rebuild (record { ids = is; locations = ls })) (a .caps .ids) (a .caps .slots) (now (a .id-marks)) (now (a .locations)) (now (a .slot-marks)) (now (a .owners)) (now (a .batch)) (now (a .tallies)) in
-    let g = rebuild-wrong m is ls (fit-not m is ls (c .before .before .before .all-fit .ensures) (c .before .before .both .ensures) (c .before .if1 .taken)) in
+    let bs = now (a .row-carried) in
+    let m = lentTo (S.rebuild (record { ids = is; locations = ls; carried = bs })) (a .caps .ids) (a .caps .slots) (now (a .id-marks)) (now (a .locations)) (now (a .slot-marks)) (now (a .owners)) (now (a .batch)) (now (a .tallies)) (now (a .carried)) in
+    let g = rebuild-wrong m is ls bs (fit-not m is ls bs (c .before .before .before .before .all-fit .ensures) (c .before .before .before .rows-fit .ensures) (c .before .before .both .ensures) (c .before .if1 .taken)) in
     (ap refusedAs (c .of .ensures) ∙ g .0, g .1)
 
 first-refused-requires : tie.Need-first-refused-requires
@@ -34,20 +38,22 @@ at-requires c κs = search
 
 returns-2 : tie.Need-returns-2
 returns-2 c =
-    let a = c .before .before .before .before .before .before .before .before .before .before .before .before .before .before .before .args in
+    let a = c .before .before .before .before .before .before .before .before .before .before .before .before .before .before .before .before .before .before .args in
     let is = now (a .ids) in
     let ls = now (a .row-locations) in
-    let m = lentTo (S.rebuild (record { ids = is; locations = ls })) (a .caps .ids) (a .caps .slots) (now (a .id-marks)) (now (a .locations)) (now (a .slot-marks)) (now (a .owners)) (now (a .batch)) (now (a .tallies)) in
-    let g = rebuild-refused m is ls (fit-so m is ls (c .before .before .before .before .before .before .all-fit .ensures) (c .before .before .before .before .before .both .ensures) (c .before .before .before .before .if1 .left)) _ (c .before .before .before .first-refused .ensures) (c .before .if2 .taken) in
+    let bs = now (a .row-carried) in
+    let m = lentTo (S.rebuild (record { ids = is; locations = ls; carried = bs })) (a .caps .ids) (a .caps .slots) (now (a .id-marks)) (now (a .locations)) (now (a .slot-marks)) (now (a .owners)) (now (a .batch)) (now (a .tallies)) (now (a .carried)) in
+    let g = rebuild-refused m is ls bs (fit-so m is ls bs (c .before .before .before .before .before .before .before .all-fit .ensures) (c .before .before .before .before .before .before .rows-fit .ensures) (c .before .before .before .before .before .both .ensures) (c .before .before .before .before .if1 .left)) _ (c .before .before .before .first-refused .ensures) (c .before .if2 .taken) in
     (ap refusedAs (c .at .ensures) ∙ g .0, g .1)
 
 write-requires : tie.Need-write-requires
 write-requires c κs =
-    let a = c .before .before .before .before .before .before .before .before .before .before .before .before .before .before .before .before .before .before .before .before .args in
+    let a = c .before .before .before .before .before .before .before .before .before .before .before .before .before .before .before .before .before .before .before .before .before .before .before .before .args in
     let is = now (a .ids) in
     let ls = now (a .row-locations) in
-    let m = lentTo (S.rebuild (record { ids = is; locations = ls })) (a .caps .ids) (a .caps .slots) (now (a .id-marks)) (now (a .locations)) (now (a .slot-marks)) (now (a .owners)) (now (a .batch)) (now (a .tallies)) in
-    let r = fit-rows m is ls (fit-so m is ls (c .before .before .before .before .before .before .before .before .before .before .before .all-fit .ensures) (c .before .before .before .before .before .before .before .before .before .before .both .ensures) (c .before .before .before .before .before .before .before .before .before .if1 .left)) in
+    let bs = now (a .row-carried) in
+    let m = lentTo (S.rebuild (record { ids = is; locations = ls; carried = bs })) (a .caps .ids) (a .caps .slots) (now (a .id-marks)) (now (a .locations)) (now (a .slot-marks)) (now (a .owners)) (now (a .batch)) (now (a .tallies)) (now (a .carried)) in
+    let r = fit-rows m is ls bs (fit-so m is ls bs (c .before .before .before .before .before .before .before .before .before .before .before .before .before .all-fit .ensures) (c .before .before .before .before .before .before .before .before .before .before .before .before .rows-fit .ensures) (c .before .before .before .before .before .before .before .before .before .before .before .both .ensures) (c .before .before .before .before .before .before .before .before .before .before .if1 .left)) in
     (r .good, r .long-is)
 
 same-length : tie.Need-same-length
@@ -68,19 +74,24 @@ same-length-5 c = search
 same-length-6 : tie.Need-same-length-6
 same-length-6 c = search
 
+same-length-7 : tie.Need-same-length-7
+same-length-7 c = search
+
 returns-3 : tie.Need-returns-3
 returns-3 c =
-    let a = c .before .before .before .before .before .before .before .before .before .before .before .before .before .before .before .before .before .before .before .before .before .before .before .before .before .before .before .before .before .before .before .before .before .args in
+    let a = c .before .before .before .before .before .before .before .before .before .before .before .before .before .before .before .before .before .before .before .before .before .before .before .before .before .before .before .before .before .before .before .before .before .before .before .before .before .before .before .args in
     let is = now (a .ids) in
     let ls = now (a .row-locations) in
-    let m = lentTo (S.rebuild (record { ids = is; locations = ls })) (a .caps .ids) (a .caps .slots) (now (a .id-marks)) (now (a .locations)) (now (a .slot-marks)) (now (a .owners)) (now (a .batch)) (now (a .tallies)) in
-    rebuild-granted m is ls (fit-so m is ls (c .before .before .before .before .before .before .before .before .before .before .before .before .before .before .before .before .before .before .before .before .before .before .before .before .all-fit .ensures) (c .before .before .before .before .before .before .before .before .before .before .before .before .before .before .before .before .before .before .before .before .before .before .before .both .ensures) (c .before .before .before .before .before .before .before .before .before .before .before .before .before .before .before .before .before .before .before .before .before .before .if1 .left)) _ (c .before .before .before .before .before .before .before .before .before .before .before .before .before .before .before .before .before .before .before .before .before .first-refused .ensures) (c .before .before .before .before .before .before .before .before .before .before .before .before .before .before .before .before .before .before .before .if2 .left) (c .before .before .before .before .before .before .before .before .before .before .before .before .write .ensures)
+    let bs = now (a .row-carried) in
+    let m = lentTo (S.rebuild (record { ids = is; locations = ls; carried = bs })) (a .caps .ids) (a .caps .slots) (now (a .id-marks)) (now (a .locations)) (now (a .slot-marks)) (now (a .owners)) (now (a .batch)) (now (a .tallies)) (now (a .carried)) in
+    rebuild-granted m is ls bs (fit-so m is ls bs (c .before .before .before .before .before .before .before .before .before .before .before .before .before .before .before .before .before .before .before .before .before .before .before .before .before .before .before .before .all-fit .ensures) (c .before .before .before .before .before .before .before .before .before .before .before .before .before .before .before .before .before .before .before .before .before .before .before .before .before .before .before .rows-fit .ensures) (c .before .before .before .before .before .before .before .before .before .before .before .before .before .before .before .before .before .before .before .before .before .before .before .before .before .before .both .ensures) (c .before .before .before .before .before .before .before .before .before .before .before .before .before .before .before .before .before .before .before .before .before .before .before .before .before .if1 .left)) _ (c .before .before .before .before .before .before .before .before .before .before .before .before .before .before .before .before .before .before .before .before .before .before .before .before .first-refused .ensures) (c .before .before .before .before .before .before .before .before .before .before .before .before .before .before .before .before .before .before .before .before .before .before .if2 .left) (c .before .before .before .before .before .before .before .before .before .before .before .before .before .before .write .ensures)
 
 pub rebuild-spec : {M : Type 1} → statement M
 rebuild-spec =
     tie.close
     (tie.spec
     all-fit-requires
+    rows-fit-requires
     both-requires
     of-requires
     returns
@@ -94,4 +105,5 @@ rebuild-spec =
     same-length-4
     same-length-5
     same-length-6
+    same-length-7
     returns-3)

@@ -17,8 +17,8 @@ of-requires c κs = search
 
 returns : tie.Need-returns
 returns c =
-    let a = c .before .before .before .before .before .before .before .before .before .args in
-    let m = lentTo S.commit (a .caps .ids) (a .caps .slots) (a .id-marks .now) (a .locations .now) (a .slot-marks .now) (a .owners .now) (a .batch .now) (a .tallies .now) in
+    let a = c .before .before .before .before .before .before .before .before .before .before .args in
+    let m = lentTo S.commit (a .caps .ids) (a .caps .slots) (a .id-marks .now) (a .locations .now) (a .slot-marks .now) (a .owners .now) (a .batch .now) (a .tallies .now) (a .carried .now) in
     simp (c .of .ensures, refused-shape m S.commit (sym (c .before .before .all-fit .ensures) ∙ not-true _ (c .before .if1 .taken)))
 
 opened-requires : tie.Need-opened-requires
@@ -35,14 +35,14 @@ enum-known-refusal c = search
 
 returns-2 : tie.Need-returns-2
 returns-2 c =
-    let a = c .before .before .before .before .before .before .before .before .before .before .before .before .before .args in
-    let m = lentTo S.commit (a .caps .ids) (a .caps .slots) (a .id-marks .now) (a .locations .now) (a .slot-marks .now) (a .owners .now) (a .batch .now) (a .tallies .now) in
+    let a = c .before .before .before .before .before .before .before .before .before .before .before .before .before .before .args in
+    let m = lentTo S.commit (a .caps .ids) (a .caps .slots) (a .id-marks .now) (a .locations .now) (a .slot-marks .now) (a .owners .now) (a .batch .now) (a .tallies .now) (a .carried .now) in
     c .check-rows .ensures ∙ commit-count m (sym (c .before .before .before .before .before .before .all-fit .ensures) ∙ not-false _ (c .before .before .before .before .before .if1 .left)) _ (sym (c .before .before .before .before .opened .ensures) ∙ c .before .before .n .given .1)
 
 returns-3 : tie.Need-returns-3
 returns-3 c =
-    let a = c .before .before .before .before .before .before .before .before .before .before .before .before .args in
-    let m = lentTo S.commit (a .caps .ids) (a .caps .slots) (a .id-marks .now) (a .locations .now) (a .slot-marks .now) (a .owners .now) (a .batch .now) (a .tallies .now) in
+    let a = c .before .before .before .before .before .before .before .before .before .before .before .before .before .args in
+    let m = lentTo S.commit (a .caps .ids) (a .caps .slots) (a .id-marks .now) (a .locations .now) (a .slot-marks .now) (a .owners .now) (a .batch .now) (a .tallies .now) (a .carried .now) in
     commit-refused m (sym (c .before .before .before .before .before .all-fit .ensures) ∙ not-false _ (c .before .before .before .before .if1 .left)) _ _ (sym (c .before .before .before .opened .ensures) ∙ c .before .refusal .given .1)
 
 pub check-spec : {M : Type 1} → statement M

@@ -34,13 +34,13 @@ same-length-5 c = search
 same-length-6 : tie.Need-same-length-6
 same-length-6 c = search
 
-returns : tie.Need-returns
-returns c =
-    let e = c .before .before .before .before .before .before .before .before .before .before .before .before .before .before .commit .ensures in
-    (told-status finishedAnswer _ _ _ (e .0) (c .enum-told .given .1), e .1)
-
 same-length-7 : tie.Need-same-length-7
 same-length-7 c = search
+
+returns : tie.Need-returns
+returns c =
+    let e = c .before .before .before .before .before .before .before .before .before .before .before .before .before .before .before .before .commit .ensures in
+    (told-status finishedAnswer _ _ _ (e .0) (c .enum-told .given .1), e .1)
 
 same-length-8 : tie.Need-same-length-8
 same-length-8 c = search
@@ -57,9 +57,15 @@ same-length-11 c = search
 same-length-12 : tie.Need-same-length-12
 same-length-12 c = search
 
+same-length-13 : tie.Need-same-length-13
+same-length-13 c = search
+
+same-length-14 : tie.Need-same-length-14
+same-length-14 c = search
+
 returns-2 : tie.Need-returns-2
 returns-2 c =
-    let e = c .before .before .before .before .before .before .before .before .before .before .before .before .before .before .before .before .commit .ensures in
+    let e = c .before .before .before .before .before .before .before .before .before .before .before .before .before .before .before .before .before .before .commit .ensures in
     (c .status .ensures ∙ told-status finishedAnswer _ _ _ (e .0) (c .before .before .r .given .1), e .1)
 
 pub wentuhoro-commit-spec : {M : Type 1} → statement M
@@ -76,11 +82,13 @@ wentuhoro-commit-spec =
     same-length-4
     same-length-5
     same-length-6
-    returns
     same-length-7
+    returns
     same-length-8
     same-length-9
     same-length-10
     same-length-11
     same-length-12
+    same-length-13
+    same-length-14
     returns-2)

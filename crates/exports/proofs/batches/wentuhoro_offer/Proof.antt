@@ -31,17 +31,17 @@ same-length-3 c = search
 same-length-4 : tie.Need-same-length-4
 same-length-4 c = search
 
+same-length-5 : tie.Need-same-length-5
+same-length-5 c = search
+
 returns : tie.Need-returns
 unfolding offerLeaves
 returns c =
-    let a = c .before .before .before .before .before .before .before .before .before .before .before .before .before .before .before .before .before .before .before .before .before .before .before .before .before .args in
-    let m = lentBy everyTable (a .ids) (a .slots) (a .id-marks .now) (a .locations .now) (a .slot-marks .now) (a .owners .now) (a .batch .now) (a .tallies .now) in
-    let o : Offer = record { ids = a .update-ids .now; stores = a .stores .now; lengths = a .lengths .now; placed = a .placed .now } in
-    let e = c .before .before .before .before .before .before .before .before .before .before .offer .ensures in
-    (offered-status (c .before .before .before .before .before .before .before .before .before .before .offer .result) _ _ _ _ _ _ e (c .enum-told .given .1), (offer-memory m o _ _ _ (ap (λ (w : Left). w .slotMarks) e) (ap (λ (w : Left). w .batch) e) (ap (λ (w : Left). w .tallies) e), ap (λ (w : Left). w .placed) e))
-
-same-length-5 : tie.Need-same-length-5
-same-length-5 c = search
+    let a = c .before .before .before .before .before .before .before .before .before .before .before .before .before .before .before .before .before .before .before .before .before .before .before .before .before .before .before .before .before .before .args in
+    let m = lentBy everyTable (a .ids) (a .slots) (a .id-marks .now) (a .locations .now) (a .slot-marks .now) (a .owners .now) (a .batch .now) (a .tallies .now) (a .carried .now) in
+    let o : Offer = record { ids = a .update-ids .now; stores = a .stores .now; lengths = a .lengths .now; carried = a .update-carried .now; placed = a .placed .now } in
+    let e = c .before .before .before .before .before .before .before .before .before .before .before .before .offer .ensures in
+    (offered-status (c .before .before .before .before .before .before .before .before .before .before .before .before .offer .result) _ _ _ _ _ _ _ e (c .enum-told .given .1), (offer-memory m o _ _ _ _ (ap (λ (w : Left). w .slotMarks) e) (ap (λ (w : Left). w .batch) e) (ap (λ (w : Left). w .tallies) e) (ap (λ (w : Left). w .carried) e), ap (λ (w : Left). w .placed) e))
 
 same-length-6 : tie.Need-same-length-6
 same-length-6 c = search
@@ -52,14 +52,20 @@ same-length-7 c = search
 same-length-8 : tie.Need-same-length-8
 same-length-8 c = search
 
+same-length-9 : tie.Need-same-length-9
+same-length-9 c = search
+
+same-length-10 : tie.Need-same-length-10
+same-length-10 c = search
+
 returns-2 : tie.Need-returns-2
 unfolding offerLeaves
 returns-2 c =
-    let a = c .before .before .before .before .before .before .before .before .before .before .before .before .before .before .before .before .before .before .before .before .before .before .before .before .before .before .before .args in
-    let m = lentBy everyTable (a .ids) (a .slots) (a .id-marks .now) (a .locations .now) (a .slot-marks .now) (a .owners .now) (a .batch .now) (a .tallies .now) in
-    let o : Offer = record { ids = a .update-ids .now; stores = a .stores .now; lengths = a .lengths .now; placed = a .placed .now } in
-    let e = c .before .before .before .before .before .before .before .before .before .before .before .before .offer .ensures in
-    (c .status .ensures ∙ offered-status (c .before .before .before .before .before .before .before .before .before .before .before .before .offer .result) _ _ _ _ _ _ e (c .before .before .r .given .1), (offer-memory m o _ _ _ (ap (λ (w : Left). w .slotMarks) e) (ap (λ (w : Left). w .batch) e) (ap (λ (w : Left). w .tallies) e), ap (λ (w : Left). w .placed) e))
+    let a = c .before .before .before .before .before .before .before .before .before .before .before .before .before .before .before .before .before .before .before .before .before .before .before .before .before .before .before .before .before .before .before .before .args in
+    let m = lentBy everyTable (a .ids) (a .slots) (a .id-marks .now) (a .locations .now) (a .slot-marks .now) (a .owners .now) (a .batch .now) (a .tallies .now) (a .carried .now) in
+    let o : Offer = record { ids = a .update-ids .now; stores = a .stores .now; lengths = a .lengths .now; carried = a .update-carried .now; placed = a .placed .now } in
+    let e = c .before .before .before .before .before .before .before .before .before .before .before .before .before .before .offer .ensures in
+    (c .status .ensures ∙ offered-status (c .before .before .before .before .before .before .before .before .before .before .before .before .before .before .offer .result) _ _ _ _ _ _ _ e (c .before .before .r .given .1), (offer-memory m o _ _ _ _ (ap (λ (w : Left). w .slotMarks) e) (ap (λ (w : Left). w .batch) e) (ap (λ (w : Left). w .tallies) e) (ap (λ (w : Left). w .carried) e), ap (λ (w : Left). w .placed) e))
 
 pub wentuhoro-offer-spec : {M : Type 1} → statement M
 wentuhoro-offer-spec =
@@ -73,9 +79,11 @@ wentuhoro-offer-spec =
     same-length-2
     same-length-3
     same-length-4
-    returns
     same-length-5
+    returns
     same-length-6
     same-length-7
     same-length-8
+    same-length-9
+    same-length-10
     returns-2)

@@ -1,14 +1,13 @@
-use mathlib.Core.Path.{refl, sym}
-use Rattle.lookup.specs.Lookup.{lookedAnswer}
-use Rattle.exports.proofs.Laws.{exported-short, told-exported, one-word}
+use mathlib.Core.Path.{refl, sym, _∙_}
+use Rattle.exports.proofs.Laws.{exported-short, looked-exported, whereFits-fits, whereFits-short, one-word}
 use borrow.Author.Needs.{needs}
 use Rattle.exports.proofs.objects.wentuhoro_lookup.Statement.{statement}
 use Rattle.exports.proofs.objects.wentuhoro_lookup.Tie as tie
 
 returns : tie.Need-returns
 returns c =
-    let lent = c .before .before .before .before .before .before .before .args .location .now in
-    exported-short 1 lent _ (c .if1 .taken)
+    let lent = c .before .before .before .before .before .before .before .before .before .args .location .now in
+    (exported-short 1 lent _ (c .if1 .taken), whereFits-short 1 lent _ _ (c .if1 .taken))
 
 get-location-for-object-requires : tie.Need-get-location-for-object-requires
 get-location-for-object-requires c κs = search
@@ -28,19 +27,25 @@ status-requires c κs = search
 same-length : tie.Need-same-length
 same-length c = search needs
 
+same-length-2 : tie.Need-same-length-2
+same-length-2 c = search needs
+
 returns-2 : tie.Need-returns-2
 returns-2 c =
-    let lent = c .before .before .before .before .before .before .before .before .before .before .before .args .location .now in
-    let h = c .before .before .before .before .if1 .left in
-    let e = c .before .before .before .get-location-for-object .ensures in
-    told-exported lookedAnswer _ _ _ (e) (c .before .l .given .1) 1 lent _ _ h refl (one-word lent _ h)
+    let lent = c .before .before .before .before .before .before .before .before .before .before .before .before .before .before .before .before .args .location .now in
+    let h = c .before .before .before .before .before .before .before .if1 .left in
+    let e = c .before .before .before .before .before .get-location-for-object .ensures in
+    (looked-exported _ _ _ _ _ (e .1) (e .0) (c .before .l .given .1) lent _ _ h refl (one-word lent _ h), e .1 ∙ whereFits-fits 1 lent _ _ h)
+
+same-length-3 : tie.Need-same-length-3
+same-length-3 c = search needs
 
 returns-3 : tie.Need-returns-3
 returns-3 c =
-    let lent = c .before .before .before .before .before .before .before .before .before .before .before .before .args .location .now in
-    let h = c .before .before .before .before .before .if1 .left in
-    let e = c .before .before .before .before .get-location-for-object .ensures in
-    told-exported lookedAnswer _ _ _ (e) (c .before .before .r .given .1) 1 lent _ _ h (sym (c .status .ensures)) refl
+    let lent = c .before .before .before .before .before .before .before .before .before .before .before .before .before .before .before .before .before .args .location .now in
+    let h = c .before .before .before .before .before .before .before .before .if1 .left in
+    let e = c .before .before .before .before .before .before .get-location-for-object .ensures in
+    (looked-exported _ _ _ _ _ (e .1) (e .0) (c .before .before .r .given .1) lent _ _ h (sym (c .status .ensures)) refl, e .1 ∙ whereFits-fits 1 lent _ _ h)
 
 pub wentuhoro-lookup-spec : {M : Type 1} → statement M
 wentuhoro-lookup-spec =
@@ -53,5 +58,7 @@ wentuhoro-lookup-spec =
     enum-known-r
     status-requires
     same-length
+    same-length-2
     returns-2
+    same-length-3
     returns-3)

@@ -1,6 +1,7 @@
 -- `rebuild::apply::write` meets its contract: zeros, the ids' used word, then the rows. Assumes nothing.
 use mathlib.Core.Path.{ap, _∙_}
 use denote.Ref.{now}
+use Rattle.carried.specs.Carried.{width, putRows}
 use Rattle.model.specs.Tables.{writeAll, locationsOf}
 use Rattle.model.specs.Rebuild.{rowsOf, heldBy, locatedBy, ownedBy}
 use Rattle.model.specs.Memory.{putWord, usedWords}
@@ -22,10 +23,13 @@ hold-ids-requires : tie.Need-hold-ids-requires
 hold-ids-requires c κs = search
 
 hold-slots-requires : tie.Need-hold-slots-requires
-hold-slots-requires c κs = c .before .before .before .before .before .before .before .before .before .before .before .before .before .before .before .before .before .before .before .before .before .before .before .before .before .before .before .before .before .before .before .before .before .before .before .before .before .before .before .before .before .before .pre
+hold-slots-requires c κs = c .before .before .before .before .before .before .before .before .before .before .before .before .before .before .before .before .before .before .before .before .before .before .before .before .before .before .before .before .before .before .before .before .before .before .before .before .before .before .before .before .before .before .before .before .before .before .before .pre
+
+put-rows-at-requires : tie.Need-put-rows-at-requires
+put-rows-at-requires c κs = search
 
 same-length : tie.Need-same-length
-same-length c = search needs
+same-length c = c .before .before .before .before .before .before .before .before .before .before .before .before .before .before .before .before .before .id-marks2 .given ∙ c .before .before .before .before .before .before .before .before .before .before .before .before .before .before .before .before .before .before .before .before .before .before .before .before .before .before .before .before .before .before .before .before .before .before .before .before .before .before .before .id-marks .given
 
 same-length-2 : tie.Need-same-length-2
 same-length-2 c = search needs
@@ -42,19 +46,23 @@ same-length-5 c = search
 same-length-6 : tie.Need-same-length-6
 same-length-6 c = search needs
 
+same-length-7 : tie.Need-same-length-7
+same-length-7 c = c .before .carried2 .given ∙ c .before .before .before .before .before .before .before .before .before .before .before .before .before .before .before .before .before .before .before .before .before .before .before .before .before .before .before .carried .given
+
 returns : tie.Need-returns
 returns c =
-    let a = c .before .before .before .before .before .before .before .before .before .before .before .before .before .before .before .before .before .before .before .before .before .before .before .before .before .before .before .before .before .before .before .before .before .before .before .before .before .before .before .before .before .before .before .before .before .before .before .before .before .args in
+    let a = c .before .before .before .before .before .before .before .before .before .before .before .before .before .before .before .before .before .before .before .before .before .before .before .before .before .before .before .before .before .before .before .before .before .before .before .before .before .before .before .before .before .before .before .before .before .before .before .before .before .before .before .before .before .before .before .before .before .before .args in
     let rs = rowsOf (now (a .ids)) (now (a .row-locations)) in
-    let clear = c .before .before .before .before .before .before .before .before .before .before .before .before .before .before .before .before .before .before .before .before .before .before .before .before .before .before .before .before .before .before .before .before .before .before .all .ensures in
-    let held = c .before .before .before .before .before .before .before .before .before .before .before .before .before .before .hold-ids .ensures in
-    let owned = c .before .before .before .before .before .before .hold-slots .ensures in (
+    let clear = c .before .before .before .before .before .before .before .before .before .before .before .before .before .before .before .before .before .before .before .before .before .before .before .before .before .before .before .before .before .before .before .before .before .before .before .before .before .before .before .before .all .ensures in
+    let held = c .before .before .before .before .before .before .before .before .before .before .before .before .before .before .before .before .before .before .hold-ids .ensures in
+    let owned = c .before .before .before .before .before .before .before .before .before .before .hold-slots .ensures in (
       held .0 ∙ ap (heldBy rs) (clear .0),
       held .1 ∙ ap (locatedBy rs) (clear .1),
       owned .0 ∙ ap (writeAll (a .slots) (locationsOf rs) 1) (clear .2),
       owned .1 ∙ ap (ownedBy (a .slots) rs) (clear .3),
       clear .4,
-      owned .2 ∙ ap (λ g. useSlots (a .slots) g (locationsOf rs)) (c .before .before .before .before .before .before .before .before .before .before .before .before .before .before .before .before .before .before .before .put .ensures ∙ (λ i. putWord (clear .5 i) usedWords 0 (c .before .before .before .before .before .before .before .before .before .before .before .before .before .before .before .before .before .before .before .before .any .ensures i))),
+      owned .2 ∙ ap (λ g. useSlots (a .slots) g (locationsOf rs)) (c .before .before .before .before .before .before .before .before .before .before .before .before .before .before .before .before .before .before .before .before .before .before .before .put .ensures ∙ (λ i. putWord (clear .5 i) usedWords 0 (c .before .before .before .before .before .before .before .before .before .before .before .before .before .before .before .before .before .before .before .before .before .before .before .before .any .ensures i))),
+      c .before .before .put-rows-at .ensures ∙ ap (putRows width (now (a .ids)) (now (a .row-carried))) (clear .6),
     )
 
 pub write-spec : {M : Type 1} → statement M
@@ -66,10 +74,12 @@ write-spec =
     put-requires
     hold-ids-requires
     hold-slots-requires
+    put-rows-at-requires
     same-length
     same-length-2
     same-length-3
     same-length-4
     same-length-5
     same-length-6
+    same-length-7
     returns)

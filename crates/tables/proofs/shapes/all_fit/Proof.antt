@@ -17,11 +17,14 @@ slots-fit-requires c κs = search needs
 slots-fit-requires-2 : tie.Need-slots-fit-requires-2
 slots-fit-requires-2 c κs = search needs
 
+carried-fits-requires : tie.Need-carried-fits-requires
+carried-fits-requires c κs = search needs
+
 all-hold-requires : tie.Need-all-hold-requires
 all-hold-requires c κs = search needs
 
 returns : tie.Need-returns
-returns c = c .all-hold .ensures ∙ fit-by _ _ _ _ _ _ _ _ _ (under _ _ _ _ (c .before .before .before .before .ids-fit .ensures)) (under _ _ _ _ (c .before .before .before .ids-fit2 .ensures)) (under _ _ _ _ (c .before .before .slots-fit .ensures)) (under _ _ _ _ (c .before .slots-fit2 .ensures)) (λ h. refl) (λ h. refl)
+returns c = c .all-hold .ensures ∙ fit-by _ _ _ _ _ _ _ _ _ _ (under _ _ _ _ (c .before .before .before .before .before .ids-fit .ensures)) (under _ _ _ _ (c .before .before .before .before .ids-fit2 .ensures)) (under _ _ _ _ (c .before .before .before .slots-fit .ensures)) (under _ _ _ _ (c .before .before .slots-fit2 .ensures)) (λ h. refl) (λ h. refl) (under _ _ _ _ (c .before .carried-fits .ensures))
 
 pub all-fit-spec : {M : Type 1} → statement M
 all-fit-spec =
@@ -31,5 +34,6 @@ all-fit-spec =
     ids-fit-requires-2
     slots-fit-requires
     slots-fit-requires-2
+    carried-fits-requires
     all-hold-requires
     returns)

@@ -25,8 +25,11 @@ both-requires-5 c κs = search needs
 both-requires-6 : tie.Need-both-requires-6
 both-requires-6 c κs = search needs
 
+both-requires-7 : tie.Need-both-requires-7
+both-requires-7 c κs = search needs
+
 returns : tie.Need-returns
-returns c = c .both6 .ensures ∙ simp (c .before .both5 .ensures, c .before .before .both4 .ensures, c .before .before .before .both3 .ensures, c .before .before .before .before .both2 .ensures, c .before .before .before .before .before .both .ensures, c .before .before .before .before .before .before .good2 .ensures)
+returns c = c .both7 .ensures ∙ simp (c .before .both6 .ensures, c .before .before .both5 .ensures, c .before .before .before .both4 .ensures, c .before .before .before .before .both3 .ensures, c .before .before .before .before .before .both2 .ensures, c .before .before .before .before .before .before .both .ensures, c .before .before .before .before .before .before .before .good2 .ensures)
 
 pub all-hold-spec : {M : Type 1} → statement M
 all-hold-spec =
@@ -39,4 +42,5 @@ all-hold-spec =
     both-requires-4
     both-requires-5
     both-requires-6
+    both-requires-7
     returns)

@@ -18,7 +18,7 @@ all-hold-requires : tie.Need-all-hold-requires
 all-hold-requires c κs = search needs
 
 returns : tie.Need-returns
-returns c = c .all-hold .ensures ∙ fit-by _ _ _ _ _ _ _ _ _ (λ h. refl) (under _ _ _ _ (c .before .before .before .ids-fit .ensures)) (under _ _ _ _ (c .before .before .slots-fit .ensures)) (under _ _ _ _ (c .before .slots-fit2 .ensures)) (λ h. refl) (λ h. refl)
+returns c = c .all-hold .ensures ∙ fit-by _ _ _ _ _ _ _ _ _ _ (λ h. refl) (under _ _ _ _ (c .before .before .before .ids-fit .ensures)) (under _ _ _ _ (c .before .before .slots-fit .ensures)) (under _ _ _ _ (c .before .slots-fit2 .ensures)) (λ h. refl) (λ h. refl) (λ h. refl)
 
 pub defrag-fits-spec : {M : Type 1} → statement M
 defrag-fits-spec =

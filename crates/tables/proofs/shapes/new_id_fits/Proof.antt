@@ -12,7 +12,7 @@ all-hold-requires : tie.Need-all-hold-requires
 all-hold-requires c κs = search needs
 
 returns : tie.Need-returns
-returns c = c .all-hold .ensures ∙ fit-by _ _ _ _ _ _ _ _ _ (under _ _ _ _ (c .before .ids-fit .ensures)) (λ h. refl) (λ h. refl) (λ h. refl) (λ h. refl) (λ h. refl)
+returns c = c .all-hold .ensures ∙ fit-by _ _ _ _ _ _ _ _ _ _ (under _ _ _ _ (c .before .ids-fit .ensures)) (λ h. refl) (λ h. refl) (λ h. refl) (λ h. refl) (λ h. refl) (λ h. refl)
 
 pub new-id-fits-spec : {M : Type 1} → statement M
 new-id-fits-spec = tie.close (tie.spec ids-fit-requires all-hold-requires returns)

@@ -12,7 +12,7 @@ all-hold-requires : tie.Need-all-hold-requires
 all-hold-requires c κs = search needs
 
 returns : tie.Need-returns
-returns c = c .all-hold .ensures ∙ fit-by _ _ _ _ _ _ _ _ _ (λ h. refl) (λ h. refl) (under _ _ _ _ (c .before .slots-fit .ensures)) (λ h. refl) (λ h. refl) (λ h. refl)
+returns c = c .all-hold .ensures ∙ fit-by _ _ _ _ _ _ _ _ _ _ (λ h. refl) (λ h. refl) (under _ _ _ _ (c .before .slots-fit .ensures)) (λ h. refl) (λ h. refl) (λ h. refl) (λ h. refl)
 
 pub slab-fits-spec : {M : Type 1} → statement M
 slab-fits-spec = tie.close (tie.spec slots-fit-requires all-hold-requires returns)

@@ -9,7 +9,7 @@ all-hold-requires : tie.Need-all-hold-requires
 all-hold-requires c κs = search needs
 
 returns : tie.Need-returns
-returns c = c .all-hold .ensures ∙ fit-by _ _ _ _ _ _ _ _ _ (λ h. refl) (λ h. refl) (λ h. refl) (λ h. refl) (λ h. refl) (λ h. refl)
+returns c = c .all-hold .ensures ∙ fit-by _ _ _ _ _ _ _ _ _ _ (λ h. refl) (λ h. refl) (λ h. refl) (λ h. refl) (λ h. refl) (λ h. refl) (λ h. refl)
 
 pub tallies-fit-spec : {M : Type 1} → statement M
 tallies-fit-spec = tie.close (tie.spec all-hold-requires returns)

@@ -1,0 +1,6 @@
+pub mod Fields
+pub mod Rows
+pub mod Blocks
+pub mod Turns
+pub mod Writing
+pub mod CanWrite

@@ -1,0 +1,4 @@
+pub mod Formats
+pub mod Blocks
+pub mod Valid
+pub mod Files

@@ -1,0 +1,11 @@
+pub mod Lists
+pub mod Files
+pub mod Written
+pub mod Steps
+pub mod Back
+pub mod Exact
+pub mod Read
+pub mod Lent
+pub mod Taken
+pub mod Ends
+pub mod Stated

@@ -1,0 +1,3 @@
+pub mod LawsRows
+pub mod LawsBlocks
+pub mod LawsRead

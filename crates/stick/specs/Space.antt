@@ -1,0 +1,7 @@
+-- What a file is read into. Assumes nothing.
+use mathlib.Core.List.{List}
+use Prim.Native.Nat.{ℕ}
+use lib.ListN.{replicate}
+
+unfoldable pub zeros : List ℕ
+zeros = replicate 2097153 0
