@@ -39,6 +39,7 @@ TOO_MANY_UPDATES = 15
 REPEATED_LOCATION = 16
 NOTHING_TO_CUT = 17
 GAP_NOT_ZERO = 18
+WRONG_BLOCK = 19
 
 
 def refused(answer):
@@ -285,6 +286,9 @@ MOST_UPDATES = 256
 BATCH_WORDS = 1 + 2 * MOST_UPDATES
 ALLOCATORS = 1 + SLABS
 WORD = 2**64
+# The bytes that a row carries: request 2026-01's collection.
+CARRIED_WIDTH = 8
+SNAPSHOT_BLOCK, SNAPSHOT_BLOCK_ROWS = 512, 20
 
 LEAST_RATIO_T, LARGEST_RATIO_T = 1, 86
 MARGIN = 115
@@ -299,18 +303,34 @@ class Cut(NamedTuple):
     given_back: int
 
 
+class Found(NamedTuple):
+    location: int
+    carried: bytes
+
+
+class Row(NamedTuple):
+    id: int
+    carried: bytes
+    location: int
+
+
+def carried_of(collections):
+    """What rows of these collections carry, one after the other."""
+    return b"".join(collection.to_bytes(CARRIED_WIDTH, "little") for collection in collections)
+
+
 KEEP = "keep"
 DONE = "done"
 
 
 # The tables that each call uses and is therefore lent, in the words of `Store`.
 TALLIES = ("granted", "freed", "used", "high")
-EVERY_TABLE = ("id_marks", "locations", "slot_marks", "owners", "batch") + TALLIES
+EVERY_TABLE = ("id_marks", "locations", "slot_marks", "owners", "batch") + TALLIES + ("carried",)
 LENT = {
     "fresh": EVERY_TABLE,
     "rebuild": EVERY_TABLE,
     "new_id": ("id_marks", "batch") + TALLIES,
-    "lookup": ("id_marks", "locations", "slot_marks", "owners"),
+    "lookup": ("id_marks", "locations", "slot_marks", "owners", "carried"),
     "offer": EVERY_TABLE,
     "commit": EVERY_TABLE,
     "abandon": ("slot_marks", "batch") + TALLIES,
@@ -318,6 +338,8 @@ LENT = {
     "counters": TALLIES,
     "defrag": ("locations", "slot_marks", "owners", "batch") + TALLIES,
     "truncation": ("slot_marks", "batch") + TALLIES,
+    "snapshot_length": ("id_marks", "locations", "batch"),
+    "snapshot_write": ("id_marks", "locations", "slot_marks", "owners", "batch", "carried"),
 }
 
 
@@ -336,6 +358,7 @@ class Store:
                    79 words each, for the ids and then each slab; used is 0 where no number was allocated or held by a row
                    since fresh or rebuild
     high           78 high marks
+    carried        (ids + 256) × 8 bytes: a row for each id, then one for each kept update
     """
 
     TABLES = EVERY_TABLE
@@ -355,6 +378,7 @@ class Store:
         self.freed = array("Q", bytes(8 * ALLOCATORS))
         self.used = array("Q", bytes(8 * ALLOCATORS))
         self.high = array("Q", bytes(8 * SLABS))
+        self.carried = bytearray(CARRIED_WIDTH * (self.ids + MOST_UPDATES))
 
     def copy(self):
         other = object.__new__(Store)
@@ -370,7 +394,7 @@ class Store:
         marks = [bytes(table).translate(_MARK_AS_READ) for table in (self.id_marks, self.slot_marks)]
         words = [table.tobytes() for table in (self.locations, self.owners, self.granted, self.freed, self.high)]
         used = tuple(word != 0 for word in self.used)
-        return (self.ids, self.slots, self.batch[0], None if kept is None else tuple(kept), *marks, *words, used)
+        return (self.ids, self.slots, self.batch[0], None if kept is None else tuple(kept), *marks, *words, used, bytes(self.carried))
 
     # -- what the tables say
 
@@ -379,7 +403,8 @@ class Store:
         if not good_id_capacity(self.ids) or not good_slot_capacity(self.slots):
             return True
         slots = SLABS * self.slots
-        expected = (self.ids, self.ids, slots, slots, BATCH_WORDS, ALLOCATORS, ALLOCATORS, ALLOCATORS, SLABS)
+        carried = CARRIED_WIDTH * (self.ids + MOST_UPDATES)
+        expected = (self.ids, self.ids, slots, slots, BATCH_WORDS, ALLOCATORS, ALLOCATORS, ALLOCATORS, SLABS, carried)
         lengths = dict(zip(Store.TABLES, expected))
         return any(len(getattr(self, table)) != lengths[table] for table in LENT[call])
 
@@ -436,6 +461,13 @@ class Store:
         slab, slot = unpack(self.slots, location)
         return slab * self.slots + slot
 
+    def carried_by(self, row):
+        """What this row of the table carries: an id's, or from `ids` on a kept update's."""
+        return bytes(self.carried[CARRIED_WIDTH * row : CARRIED_WIDTH * (row + 1)])
+
+    def carry(self, row, carried):
+        self.carried[CARRIED_WIDTH * row : CARRIED_WIDTH * (row + 1)] = carried
+
     def count_granted(self, allocator):
         self.granted[allocator] = (self.granted[allocator] + 1) % WORD
         self.used[allocator] = 1
@@ -448,8 +480,12 @@ class Store:
     def fresh(self):
         return self.rebuild([], [])
 
-    def rebuild(self, row_ids, row_locations):
-        if self.lent_wrongly("rebuild") or len(row_ids) != len(row_locations):
+    def rebuild(self, row_ids, row_locations, row_carried=None):
+        """Rows carry zeros where nothing is said of it."""
+        if row_carried is None:
+            row_carried = bytes(CARRIED_WIDTH * len(row_ids))
+        same = len(row_ids) == len(row_locations) and len(row_carried) == CARRIED_WIDTH * len(row_ids)
+        if self.lent_wrongly("rebuild") or not same:
             return Refused(WRONG_LENGTH)
         ids_seen, locations_seen = set(), set()
         for row, (id, location) in enumerate(zip(row_ids, row_locations)):
@@ -464,9 +500,10 @@ class Store:
             ids_seen.add(id)
             locations_seen.add(location)
         self.clear()
-        for id, location in zip(row_ids, row_locations):
+        for row, (id, location) in enumerate(zip(row_ids, row_locations)):
             self.id_marks[id] = HELD
             self.locations[id] = location
+            self.carry(id, row_carried[CARRIED_WIDTH * row : CARRIED_WIDTH * (row + 1)])
             self.slot_marks[self.at(location)] = HELD
             self.owners[self.at(location)] = id
             self.used[0] = 1
@@ -497,16 +534,19 @@ class Store:
             return Refused(NOT_HELD)
         if self.tables_disagree(id):
             return Refused(TABLES_DISAGREE)
-        return self.locations[id]
+        return Found(self.locations[id], self.carried_by(id))
 
     # -- batches
 
-    def offer(self, update_ids, stores, lengths, answer_rows=None):
-        """One packed location for each update, 0 for a Free; `answer_rows` is the length of the lent list."""
+    def offer(self, update_ids, stores, lengths, update_carried=None, answer_rows=None):
+        """One packed location for each update, 0 for a Free; `answer_rows` is the length of the lent list. Rows carry zeros where nothing is
+        said of it."""
         if answer_rows is None:
             answer_rows = len(update_ids)
+        if update_carried is None:
+            update_carried = bytes(CARRIED_WIDTH * len(update_ids))
         same = len(update_ids) == len(stores) == len(lengths) == answer_rows
-        if self.lent_wrongly("offer") or not same:
+        if self.lent_wrongly("offer") or not same or len(update_carried) != CARRIED_WIDTH * len(update_ids):
             return Refused(WRONG_LENGTH)
         if self.batch_open():
             return Refused(BATCH_OPEN)
@@ -536,6 +576,7 @@ class Store:
         for index, (id, location) in enumerate(zip(update_ids, given)):
             self.batch[1 + index] = id
             self.batch[1 + MOST_UPDATES + index] = location
+            self.carry(self.ids + index, update_carried[CARRIED_WIDTH * index : CARRIED_WIDTH * (index + 1)])
         return given
 
     def take_slot(self, slab):
@@ -566,12 +607,14 @@ class Store:
         refusal = self.refuse_kept("commit", bad)
         if refusal is not None:
             return refusal
-        for id, location in self.kept():
+        for index, (id, location) in enumerate(self.kept()):
             older = self.locations[id]
             self.locations[id] = location
             if location:
                 self.owners[self.at(location)] = id
+                self.carry(id, self.carried_by(self.ids + index))
             else:
+                self.carry(id, bytes(CARRIED_WIDTH))
                 self.id_marks[id] = PENDING
                 if older:
                     self.owners[self.at(older)] = 0
@@ -635,6 +678,36 @@ class Store:
                 location = pack(self.slots, slab, slot)
                 if self.in_id_range(owner) and self.locations[owner] == location:
                     rows.append((owner, location))
+        return rows
+
+    # -- snapshots
+
+    def live_rows(self):
+        """Each id above 0 that is held and has a location, in order."""
+        live = [id for id in range(1, self.ids) if self.id_held(id) and self.locations[id]]
+        return [Row(id, self.carried_by(id), self.locations[id]) for id in live]
+
+    def snapshot_bytes(self):
+        """What a file of the live rows takes: one block where there are none."""
+        return SNAPSHOT_BLOCK * max(1, -(-len(self.live_rows()) // SNAPSHOT_BLOCK_ROWS))
+
+    def snapshot_length(self):
+        if self.lent_wrongly("snapshot_length"):
+            return Refused(WRONG_LENGTH)
+        if self.batch_open():
+            return Refused(BATCH_OPEN)
+        return self.snapshot_bytes()
+
+    def snapshot_write(self, file_length):
+        """The rows that are written into a lent file of this length; snapshot.py has the file of these rows."""
+        if self.lent_wrongly("snapshot_write") or file_length != self.snapshot_bytes():
+            return Refused(WRONG_LENGTH)
+        if self.batch_open():
+            return Refused(BATCH_OPEN)
+        rows = self.live_rows()
+        for index, row in enumerate(rows):
+            if self.tables_disagree(row.id):
+                return Refused(TABLES_DISAGREE, index)
         return rows
 
     # -- truncation
@@ -715,8 +788,8 @@ def marks_as_read(marks, hint, waiting):
     return read
 
 
-def store_as_read(ids, slots, id_marks, locations, slot_marks, owners, batch, tallies):
-    """The store that six lent tables mean. The tallies are 473 words: 79 granted, 79 freed, 79 used, 79 hints, 79 waiting,
+def store_as_read(ids, slots, id_marks, locations, slot_marks, owners, batch, tallies, carried):
+    """The store that seven lent tables mean. The tallies are 473 words: 79 granted, 79 freed, 79 used, 79 hints, 79 waiting,
     78 high marks."""
     store = object.__new__(Store)
     store.ids, store.slots = ids, slots
@@ -725,6 +798,7 @@ def store_as_read(ids, slots, id_marks, locations, slot_marks, owners, batch, ta
     hints, waiting = parts[3], parts[4]
     store.high = array("Q", tallies[5 * ALLOCATORS :])
     store.locations, store.owners, store.batch = array("Q", locations), array("Q", owners), array("Q", batch)
+    store.carried = bytearray(carried)
     store.id_marks = marks_as_read(id_marks, hints[0], waiting[0])
     store.slot_marks = bytearray()
     for slab in range(SLABS):

@@ -5,6 +5,8 @@ import random
 import sys
 import time
 
+import snapshot
+
 from comparison import answers, any_tables, cutoffs, differences, histories, large, leaves, replay, tiny
 from comparison import truncations
 from comparison.beside import LIBRARY, out_of_order, show
@@ -91,6 +93,9 @@ def main():
     missing = sorted(any_tables.EXPECTED ^ seen)
     missing = [f"{name} answers {number} never, or where it may not" for name, number in missing]
     report.part(f"the model over any tables, {calls} calls, kinds of answer", len(seen), missing)
+    doing("snapshots, written and read by Python alone")
+    files, wrong = snapshot.run()
+    report.part("snapshots, written and read by Python alone, files", files, wrong)
     doing("listed differences")
     shown, wrong = differences.run()
     report.part("listed differences, each shown on both sides", shown, wrong)

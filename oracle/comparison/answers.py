@@ -11,9 +11,10 @@ import random
 import sys
 
 import model
-from model import DONE, HELD, KEEP, SLABS, SLAB_SIZES, Store, refused
+import snapshot
+from model import DONE, HELD, KEEP, SLABS, SLAB_SIZES, Store, carried_of, refused
 
-from comparison import any_tables, cutoffs, leaves, spoken
+from comparison import any_tables, cutoffs, leaves, replay, spoken
 from comparison.beside import HERE, LIBRARY, ask, library_says
 from comparison.cuts import cut_all
 from comparison.histories import OTHER_CLASS_IN_RUST, RATIOS, T_OF_THE_RUST, asserts_in_rust, some_lengths
@@ -38,9 +39,9 @@ class Lists:
         self.of_rust.append((line, expected))
         self.of_library.append((line, listed or library_says(expected)))
 
-    def ask_library(self, line, refusal):
-        """A line that the Rust does not refuse, or not so."""
-        self.of_library.append((line, f"refused {refusal.number} {refusal.index}"))
+    def ask_library(self, line, answer):
+        """A line that the Rust does not refuse, or not so, or does not know."""
+        self.of_library.append((line, f"refused {answer.number} {answer.index}" if refused(answer) else answer))
 
     def refuse(self, call, refusal):
         self.lines.append(f"model {call} refused {refusal.number} {refusal.index}")
@@ -248,6 +249,7 @@ class Listed:
     def __init__(self, lists, chance, ids, slots, lengths, on_files):
         self.lists, self.chance, self.lengths, self.on_files = lists, chance, lengths, on_files
         self.store = Store(ids, slots)
+        self.batches = 0
         lists.lines.append(f"store {ids} {slots}")
         self.fresh()
 
@@ -270,20 +272,41 @@ class Listed:
         answer = self.store.new_id()
         self.note("new_id", answer, "new_id", spoken.ok(answer), f"ok {answer}")
 
+    def collection(self, id):
+        """What an update of this id carries: another with each batch, in every byte."""
+        return self.batches % 256 * 0x0101010101010000 + id % 65_536
+
+    def collections(self, ids):
+        """Of a batch or of a rebuild's rows. The library's driver is told them, the Rust's has no use for them."""
+        self.batches += 1
+        return [self.collection(id) for id in ids]
+
+    def tell_collections(self, collections):
+        self.lists.ask_library(" ".join(["carried", str(len(collections)), *map(str, collections)]), "ok")
+
     def rebuild(self, rows):
-        for at, count, (id, location), (id_step, location_step) in runs(rows):
-            self.lists.lines.append(f"row {at} {count} {id} {id_step} {location} {location_step}")
-        answer = self.store.rebuild(*(list(zip(*rows)) or [(), ()]))
+        """Rows of objects that are stored carry what they did."""
+        live = {row.id: replay.collection(row.carried) for row in self.store.live_rows()}
+        collections = [live.get(id, other) for (id, _), other in zip(rows, self.collections([id for id, _ in rows]))]
+        for at, count, first, steps in runs([(*row, collection) for row, collection in zip(rows, collections)]):
+            columns = " ".join(f"{number} {step}" for number, step in zip(first, steps))
+            self.lists.lines.append(f"row {at} {count} {columns}")
+        self.tell_collections(collections)
+        answer = self.store.rebuild(*(list(zip(*rows)) or [(), ()]), carried_of(collections))
         self.note(f"rebuild {len(rows)}", answer, spoken.rebuild(rows), "ok", "ok")
 
     def offer(self, rows):
         """Updates, the call, then what the lent list holds."""
+        collections = self.collections([id for id, _, _ in rows])
         for kind_at, kind_rows in same_kind(rows):
-            for run_at, count, (id,), (step,) in runs([(id,) for id, _, _ in kind_rows]):
+            kept = [(id, collections[kind_at + at]) for at, (id, _, _) in enumerate(kind_rows)]
+            for run_at, count, (id, collection), (step, collection_step) in runs(kept):
                 _, is_store, length = kind_rows[run_at]
                 kind = "store" if is_store else "free"
-                self.lists.lines.append(f"update {kind_at + run_at} {count} {id} {step} {kind} {length}")
-        answer = self.store.offer(*(list(zip(*rows)) or [(), (), ()]))
+                self.lists.lines.append(f"update {kind_at + run_at} {count} {id} {step} {kind} {length} {collection} {collection_step}")
+        answer = self.store.offer(*(list(zip(*rows)) or [(), (), ()]), carried_of(collections))
+        if not (self.on_files and refused(answer)):
+            self.tell_collections(collections)
         rust_line = None if self.on_files else f"offer {spoken.updates(rows)}"
         said = "" if refused(answer) else spoken.ok(*answer)
         if not self.note(f"offer {len(rows)}", answer, rust_line, said, "ok"):
@@ -303,7 +326,27 @@ class Listed:
 
     def lookup(self, id):
         answer = self.store.lookup(id)
-        self.note(f"lookup {id}", answer, f"lookup {id}", spoken.ok(answer), f"ok {answer}")
+        location, carried = (0, b"") if refused(answer) else answer
+        listed = f"ok {location} {replay.collection(carried)}"
+        self.lists.ask_library(f"found {id}", answer if refused(answer) else listed)
+        self.note(f"lookup {id}", answer, f"lookup {id}", spoken.ok(location), listed)
+
+    def snapshot(self):
+        """Its length; then the file, by its check, and one that is a block too long, too short or a byte off."""
+        length = self.store.snapshot_length()
+        self.tell("snapshot_length", length, f"ok {length}")
+        right = self.store.snapshot_bytes()
+        for lent in (right + (snapshot.BLOCK, -snapshot.BLOCK, 1)[self.batches % 3], right):
+            rows = self.store.snapshot_write(lent)
+            self.tell(f"snapshot_write {lent}", rows, "" if refused(rows) else f"ok {replay.file_check(rows)}")
+
+    def tell(self, call, answer, listed):
+        """A call that the Rust has not."""
+        self.lists.ask_library(call, answer if refused(answer) else listed)
+        if refused(answer):
+            self.lists.refuse(call, answer)
+        else:
+            self.lists.lines.append(f"model {call} {listed}")
 
     def defrag(self, bits):
         store = self.store
@@ -412,6 +455,7 @@ def random_history(lists, chance, ids, slots, on_files, calls):
             if chance.random() < 0.3:
                 spoil_rows(chance, rows, ids, slots)
             listed.rebuild(rows)
+            listed.snapshot()
         elif kind == "truncation" and not on_files:
             slab = chance.choice(live_slabs + [77, 78])
             for t in (chance.choice((1, 50, 80, 86, 86, 0, 87, 100)), 86):
@@ -421,6 +465,7 @@ def random_history(lists, chance, ids, slots, on_files, calls):
             chance.choice((listed.commit if not on_files else listed.counters, lambda: listed.lookup(2**64 - 1)))()
             listed.defrag(chance.choice(BAD_RATIOS))
     listed.counters()
+    listed.snapshot()
     for id in range(1, min(ids, 20)):
         listed.lookup(id)
 
@@ -454,6 +499,7 @@ def while_open(listed, chance):
         listed.truncation(0, 80)
         listed.report(0, 80)
         listed.lookup(1)
+        listed.snapshot()
 
 
 def named_cases(lists, chance):
@@ -482,9 +528,10 @@ def named_cases(lists, chance):
         listed = Listed(lists, chance, ids, slots, [3], False)
         for _ in range(ids):
             listed.new_id()
-        for count in (0, 1, 255, 256, 257):
+        for count in (0, 1, 19, 20, 21, 40, 255, 256, 257):
             if listed.offer([(id, True, 3) for id in range(1, count + 1)]):
                 listed.commit()
+            listed.snapshot()
         listed.offer([(1, True, 3), (1, True, 3)])
         listed.offer([(1, True, 3), (1, False, 0)])
         listed.offer([(1, True, 17_179_869_173)])
@@ -525,6 +572,66 @@ def cut_edges(lists, chance):
             for _ in range(2):
                 listed.report(slab, 86)
             listed.truncation(slab, 86)
+
+
+def snapshot_files():
+    """(file, positions to step from): whole ones, those that are wrong in one thing, and each kind of position."""
+    start = snapshot.Position(0, 0)
+    for count in (0, 1, 2, 19, 20, 21, 39, 40, 41, 60):
+        file, positions = snapshot.write(snapshot.some_rows(count)), [start]
+        while positions[-1] != snapshot.END:
+            answer = snapshot.step(file, positions[-1])
+            positions.append(answer if answer == snapshot.END else answer[1])
+        positions.pop()
+        yield file, positions if count < 3 else [start, positions[len(positions) // 2], *positions[-2:]]
+    for length in (0, 1, 511, 513, 1_023, 1_025):
+        yield bytes(length), [start]
+    for what, file, refusal in snapshot.bad_files():
+        if len(file) % snapshot.BLOCK == 0:
+            yield file, [snapshot.Position(refusal.index, 0)]
+    for file, position, _ in snapshot.bad_positions():
+        if len(file) % snapshot.BLOCK == 0:
+            yield file, [position]
+    # Ids from 0 on: a rebuild refuses that row.
+    yield snapshot.write([snapshot.Row(id, 0, 0) for id in range(3)]), [start]
+
+
+def list_file(lists, file):
+    """The lines that make a file: its blocks' fields, rows and whatever else is not zero."""
+    lists.lines.append(f"file {len(file)}")
+    for first in range(0, len(file) - snapshot.BLOCK + 1, snapshot.BLOCK):
+        block = file[first : first + snapshot.BLOCK]
+        fields = [(0, 4), (4, 2), (6, 2), *((at, 1) for at in range(snapshot.HEAD + snapshot.ROW * snapshot.ROWS, snapshot.CHECK))]
+        fields = [(at, width, snapshot.number(block[at : at + width])) for at, width in fields]
+        lists.lines += [f"number {first + at} {width} {value}" for at, width, value in fields if value]
+        starts = range(snapshot.HEAD, snapshot.HEAD + snapshot.ROW * snapshot.ROWS, snapshot.ROW)
+        rows = [tuple(snapshot.number(block[at + part : at + part + 8]) for part in (0, 8, 16)) for at in starts]
+        for at, count, words, steps in runs(rows):
+            if any(words + tuple(steps)):
+                columns = " ".join(f"{word} {step}" for word, step in zip(words, steps))
+                lists.lines.append(f"filled {first + starts[at]} {count} {columns}")
+        if snapshot.signed(block[: snapshot.CHECK]) == block:
+            lists.lines.append(f"sign {first}")
+        else:
+            lists.lines.append(f"number {first + snapshot.CHECK} 4 {snapshot.number(block[snapshot.CHECK :])}")
+
+
+def list_calls(lists, file, positions):
+    most = snapshot.ROWS * (len(file) // snapshot.BLOCK)
+    made = replay.File(0)
+    made.data = bytearray(file)
+    calls = [("step", position) for position in positions] + [("read", (rows,)) for rows in (most, most + 1)]
+    if most and not positions[0].block:
+        calls.append(("read", (most - 1,)))
+    lists.lines += [f"model {name} {' '.join(map(str, words))} {getattr(made, name)(*words)}" for name, words in calls]
+
+
+def snapshots_list():
+    lists = ModelLists("mapper", "Snapshot files, read row by row and at once: the answers of snapshot.py alone.")
+    for file, positions in snapshot_files():
+        list_file(lists, file)
+        list_calls(lists, file, positions)
+    return lists
 
 
 def files_list():
@@ -602,7 +709,7 @@ class ModelLists(Lists):
     def ask(self, line, expected, listed=None):
         pass
 
-    def ask_library(self, line, refusal):
+    def ask_library(self, line, answer):
         """Its tables are poked, which no driver does: `replay_stores` makes these calls."""
 
     def grant(self, call, answer):
@@ -614,8 +721,8 @@ class ModelLists(Lists):
 
 def entries(store):
     """(table, place): value, of all that the rules can see; marks and used words as they are read."""
-    shown = {}
-    for table in Store.TABLES:
+    shown = {("carried", row): replay.collection(store.carried_by(row)) for row in range(store.ids + model.MOST_UPDATES)}
+    for table in Store.TABLES[:-1]:
         for at, value in enumerate(getattr(store, table)):
             if table == "batch" and at and (at - 1) % 256 >= (store.batch[0] - 1 if 0 < store.batch[0] <= 257 else 0):
                 continue
@@ -635,10 +742,11 @@ def list_any_tables(lists, chance):
     if chance.random() < 0.6:
         soften(chance, store)
     shown = entries(store)
-    for table in Store.TABLES:
+    for table in Store.TABLES[:-1]:
         for at, value in enumerate(getattr(store, table)):
             if value and (table, at) in shown:
                 lists.lines.append(f"poke {table} {at} {value}")
+    lists.lines += [f"poke {table} {at} {value}" for (table, at), value in shown.items() if table == "carried" and value]
     some_id = lambda: chance.choice((0, 1, 1, 1, ids - 1, ids - 1, ids - 1, ids, 2**64 - 1))
     slab, t = chance.choice((0, 0, 1, 77, 78)), chance.choice((1, 80, 86, 86, 0, 87))
     rows = [(some_id(), True, 3), (some_id(), False, 0), (some_id(), True, chance.choice((60, 60, 2**35)))]
@@ -649,6 +757,7 @@ def list_any_tables(lists, chance):
             listed.new_id, listed.release, listed.counters, lambda: listed.lookup(some_id()),
             lambda: listed.offer(rows[: chance.randint(1, 3)]), lambda: listed.offer(rows[:1]),
             lambda: listed.defrag(chance.choice(RATIOS)), lambda: listed.truncation(slab, t), lambda: listed.report(slab, t),
+            listed.snapshot,
         ]
         make_call = chance.choice(ends if chance.random() < (0.7 if store.batch_open() else 0.1) else calls)
         before = entries(store)
@@ -685,6 +794,7 @@ FILES = {
     "tables.txt": tables_list,
     "leaves.txt": leaves_list,
     "cutoffs.txt": cutoffs_list,
+    "snapshots.txt": snapshots_list,
     "stores.txt": stores_list,
     "files.txt": files_list,
     "large.txt": large_list,

@@ -1,6 +1,6 @@
 """The model alone, over tables that no history reaches: every call ends in an answer, and a refusal writes nothing."""
 
-from model import BATCH_WORDS, SLABS, Store, pack, refused
+from model import BATCH_WORDS, CARRIED_WIDTH, SLABS, SNAPSHOT_BLOCK, Store, carried_of, pack, refused
 
 from comparison.histories import RATIOS
 from comparison.progress import counted
@@ -43,6 +43,9 @@ def any_store(chance, ids, slots):
                 store.batch[257 + at] = chance.choice((0, pack(slots, chance.choice((0, 77)), chance.randrange(slots))))
     for counters in (store.granted, store.freed):
         counters[chance.randrange(SLABS + 1)] = 2**64 - 1
+    # The rows of the ids, and of the first kept updates.
+    for row in range(ids + 3):
+        store.carry(row, carried_of([(row + 1) * 0x1122334455667788 % 2**64]))
     return store
 
 
@@ -53,17 +56,24 @@ def any_call(chance, store):
     rows = [(some_id(), chance.random() < 0.8, chance.choice((3, 3, 3, 60, 2**35))) for _ in range(3)]
     rows = rows[: chance.randint(0, 3)] if chance.random() < 0.95 else rows * 86
     columns = [list(column) for column in zip(*rows)] or [[], [], []]
+    carried = chance.randbytes(CARRIED_WIDTH * len(rows))
     if chance.random() < 0.1:
         columns[chance.randrange(3)].append(1)
+    elif chance.random() < 0.05:
+        carried += bytes(1)
     slab, t = chance.choice((0, 0, 1, 1, 77, 77, 78, 2**64 - 1)), chance.choice((0, 1, 80, 86, 86, 87))
     bits = chance.choice(RATIOS + (0, 0x80000000, 0x7F800000, 0x7FC00000, 0x3F800001))
     good = lambda: pack(store.slots, chance.choice((0, 77)), 0)
     row_locations = [any_word(chance, store) if chance.random() < 0.2 else good() for _ in range(chance.randint(0, 3))]
     row_ids = [some_id() for _ in row_locations]
+    row_carried = chance.randbytes(CARRIED_WIDTH * len(row_ids) + (chance.random() < 0.05))
+    file_length = store.snapshot_bytes() if len(store.id_marks) == len(store.locations) == store.ids else SNAPSHOT_BLOCK
+    file_length += chance.choice((0, 0, 0, 0, 0, 0, SNAPSHOT_BLOCK, -SNAPSHOT_BLOCK, 1))
     return chance.choice((
         ("new_id", Store.new_id), ("release", Store.release), ("commit", Store.commit), ("abandon", Store.abandon),
-        ("lookup", lambda store: store.lookup(id)), ("offer", lambda store: store.offer(*columns)),
-        ("rebuild", lambda store: store.rebuild(row_ids, row_locations)), ("fresh", Store.fresh),
+        ("lookup", lambda store: store.lookup(id)), ("offer", lambda store: store.offer(*columns, carried)),
+        ("rebuild", lambda store: store.rebuild(row_ids, row_locations, row_carried)), ("fresh", Store.fresh),
+        ("snapshot_length", Store.snapshot_length), ("snapshot_write", lambda store: store.snapshot_write(file_length)),
         ("counters", Store.counters), ("defrag", lambda store: store.defrag(bits)),
         ("truncation", lambda store: store.truncation(slab, t)), ("report", lambda store: store.report_cut(slab, t)),
     ))
@@ -87,10 +97,11 @@ def run(chance, count):
     return 6 * count, seen
 
 
-# Every refusal that document 01's order lists for a store call.
+# Every refusal that the documents' orders list for a store call.
 LISTED = {
     "new_id": (1, 11, 10), "release": (1, 11), "offer": (1, 11, 15, 8, 9, 2, 13, 10), "rebuild": (1, 8, 9, 3, 16),
     "lookup": (1, 8, 13), "truncation": (1, 11, 3, 14), "report": (1, 11, 3, 14, 17), "defrag": (1, 11, 14),
     "commit": (1, 12, 13), "abandon": (1, 12, 13), "fresh": (1,), "counters": (1,),
+    "snapshot_length": (1, 11), "snapshot_write": (1, 11, 13),
 }
 EXPECTED = {(name, number) for name, numbers in LISTED.items() for number in (0,) + numbers}

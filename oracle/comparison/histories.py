@@ -128,7 +128,7 @@ class History:
         self.beside.call(f"batch {words}", spoken.ok(cuts, rust_back, written, files), spoken.ok(cuts, given_back, written, files))
         for id, is_store, _ in rows:
             if is_store:
-                self.beside.call(f"lookup {id}", spoken.ok(store.lookup(id)))
+                self.beside.call(f"lookup {id}", spoken.ok(store.lookup(id).location))
         for slab, (rust_length, length) in self.file_lengths.items():
             self.beside.call(f"file_length {slab}", spoken.ok(rust_length), spoken.ok(length))
             self.beside.call(f"high {slab}", spoken.ok(store.high[slab]))
@@ -152,7 +152,7 @@ class History:
         id = self.chance.randint(0, self.store.ids)
         answer = self.on_model(lambda store: store.lookup(id))
         if not refused(answer):
-            self.beside.call(f"lookup {id}", spoken.ok(answer))
+            self.beside.call(f"lookup {id}", spoken.ok(answer.location))
 
     def defrag(self):
         bits = self.chance.choice(RATIOS) if self.chance.random() < 0.5 else self.chance.randint(1, 0x3F800000)

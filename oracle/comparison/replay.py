@@ -8,12 +8,13 @@ import os
 import sys
 
 import model
-from model import KEEP, Store, refused
+import snapshot
+from model import KEEP, Store, carried_of, refused
 
 from comparison.beside import HERE
 
 DIRECTORY = os.path.join(HERE, "..", "answers")
-FILES = ("leaves.txt", "cutoffs.txt", "stores.txt", "files.txt", "large.txt", "tables.txt")
+FILES = ("leaves.txt", "cutoffs.txt", "snapshots.txt", "stores.txt", "files.txt", "large.txt", "tables.txt")
 
 
 class Words:
@@ -56,6 +57,16 @@ def cut_told(answer):
     return KEEP if answer == KEEP else f"cut {answer.length} {answer.given_back}"
 
 
+def collection(carried):
+    return int.from_bytes(carried, "little")
+
+
+def file_check(rows):
+    """The check of ISO 3309 over the bodies of the blocks of a store's file, by which a list says the file."""
+    file = snapshot.write([snapshot.Row(row.id, collection(row.carried), row.location) for row in rows])
+    return model.crc32(snapshot.bodies(file))
+
+
 def leaf(name, words):
     """What the call answers now."""
     if name == "class":
@@ -95,9 +106,43 @@ def leaf(name, words):
     return None
 
 
+def runs(count, *columns):
+    """Rows of which each column says its first number and its step."""
+    return [tuple(first + i * step for first, step in columns) for i in range(count)]
+
+
+class File:
+    """The snapshot file that the lines of a list make."""
+
+    def __init__(self, length):
+        self.data = bytearray(length)
+
+    def number(self, at, width, value):
+        assert at + width <= len(self.data)
+        self.data[at : at + width] = value.to_bytes(width, "little")
+
+    def filled(self, at, count, *columns):
+        for row, words in enumerate(runs(count, columns[0:2], columns[2:4], columns[4:6])):
+            for part, word in enumerate(words):
+                self.number(at + snapshot.ROW * row + 8 * part, 8, word)
+
+    def sign(self, at):
+        self.data[at : at + snapshot.BLOCK] = snapshot.signed(self.data[at : at + snapshot.CHECK])
+
+    def step(self, block, row):
+        answer = snapshot.step(bytes(self.data), snapshot.Position(block, row))
+        if refused(answer):
+            return told(answer)
+        return answer if answer == snapshot.END else told(None, *answer[0], *answer[1])
+
+    def read(self, rows):
+        answer = snapshot.read(bytes(self.data), rows, rows, model.CARRIED_WIDTH * rows)
+        return told(answer) if refused(answer) else told(None, len(answer))
+
+
 class Replay:
     def __init__(self):
-        self.store = None
+        self.store = self.file = None
         self.updates, self.rows = [], []
         self.given, self.listed, self.counted = [], [], []
 
@@ -116,14 +161,27 @@ class Replay:
 
     def line_update(self, words, text):
         at, count, id, step = words.numbers(4)
-        kind, length = words.word(), words.number()
+        kind, length, collection, collection_step = words.word(), *words.numbers(3)
         assert at == len(self.updates)
-        self.updates += [(id + i * step, kind == "store", length) for i in range(count)]
+        ids_and_collections = runs(count, (id, step), (collection, collection_step))
+        self.updates += [(id, kind == "store", length, collection) for id, collection in ids_and_collections]
 
     def line_row(self, words, text):
-        at, count, id, step, location, location_step = words.numbers(6)
+        at, count, *columns = words.numbers(8)
         assert at == len(self.rows)
-        self.rows += [(id + i * step, location + i * location_step) for i in range(count)]
+        self.rows += runs(count, columns[0:2], columns[2:4], columns[4:6])
+
+    def line_file(self, words, text):
+        self.file = File(words.number())
+
+    def line_number(self, words, text):
+        self.file.number(*words.numbers(3))
+
+    def line_filled(self, words, text):
+        self.file.filled(*words.numbers(8))
+
+    def line_sign(self, words, text):
+        self.file.sign(words.number())
 
     def line_slot(self, words, text):
         at, count, location, step = words.numbers(4)
@@ -141,14 +199,20 @@ class Replay:
 
     def line_poke(self, words, text):
         table, at, value = words.word(), words.number(), words.number()
-        getattr(self.store, table)[at] = value
+        if table == "carried":
+            self.store.carry(at, carried_of([value]))
+        else:
+            getattr(self.store, table)[at] = value
 
     def line_peek(self, words, text):
         table, at, _ = words.word(), words.number(), words.number()
-        return f"peek {table} {at} {getattr(self.store, table)[at]}"
+        value = collection(self.store.carried_by(at)) if table == "carried" else getattr(self.store, table)[at]
+        return f"peek {table} {at} {value}"
 
     def call(self, name, words):
         store = self.store
+        if name in ("step", "read"):
+            return getattr(self.file, name)(*words.numbers(2 if name == "step" else 1))
         if name in ("fresh", "commit", "abandon", "release"):
             return told(getattr(store, name)())
         if name == "new_id":
@@ -156,16 +220,24 @@ class Replay:
             return told(answer, answer)
         if name == "lookup":
             answer = store.lookup(words.number())
-            return told(answer, answer)
+            return told(answer) if refused(answer) else told(answer, answer.location, collection(answer.carried))
         if name == "offer":
             rows, self.updates = self.updates, []
             assert words.number() == len(rows)
-            self.given = store.offer(*(list(zip(*rows)) or [(), (), ()]))
+            *columns, collections = list(zip(*rows)) or [(), (), (), ()]
+            self.given = store.offer(*columns, carried_of(collections))
             return told(self.given)
         if name == "rebuild":
             rows, self.rows = self.rows, []
             assert words.number() == len(rows)
-            return told(store.rebuild(*(list(zip(*rows)) or [(), ()])))
+            *columns, collections = list(zip(*rows)) or [(), (), ()]
+            return told(store.rebuild(*columns, carried_of(collections)))
+        if name == "snapshot_length":
+            answer = store.snapshot_length()
+            return told(answer, answer)
+        if name == "snapshot_write":
+            answer = store.snapshot_write(words.number())
+            return told(answer) if refused(answer) else told(answer, file_check(answer))
         if name == "defrag":
             self.listed = store.defrag(words.number())
             return told(self.listed) if refused(self.listed) else told(None, len(self.listed))

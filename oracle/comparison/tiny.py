@@ -88,7 +88,7 @@ def reading_calls(store):
     for id in range(1, IDS):
         answer = store.lookup(id)
         if not refused(answer):
-            yield f"lookup {id}", spoken.ok(answer)
+            yield f"lookup {id}", spoken.ok(answer.location)
     yield "counters", spoken.sums(store.counters())
     for bits in RATIOS:
         answer = store.defrag(bits)

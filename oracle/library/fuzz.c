@@ -88,8 +88,10 @@ static const uint8_t *canaries(const struct slice *s) { return s->at == s->regio
 /* ---- calls and their refusals */
 
 enum call {
-    NEW_ID, LOOKUP, OFFER, COMMIT, ABANDON, RELEASE, FRESH, REBUILD, STATS, COUNTERS, DEFRAG, TRUNCATION, CUT_DONE,
-    CLASS, CRC32, CRC32_UPDATE, FRAME_WRITE, FRAME_READ, COOKIE_WRITE, COOKIE_READ, COOKIE_VERIFY, PACK, UNPACK, CUTOFF, CALLS
+    NEW_ID, LOOKUP, OFFER, COMMIT, ABANDON, RELEASE, FRESH, REBUILD, STATS, COUNTERS, DEFRAG, TRUNCATION, CUT_DONE, SNAPSHOT_LENGTH,
+    SNAPSHOT_WRITE,
+    CLASS, CRC32, CRC32_UPDATE, FRAME_WRITE, FRAME_READ, COOKIE_WRITE, COOKIE_READ, COOKIE_VERIFY, PACK, UNPACK, CUTOFF, SNAPSHOT_STEP,
+    SNAPSHOT_READ, CALLS
 };
 
 static const struct {
@@ -109,6 +111,8 @@ static const struct {
     {"defrag", "\1\13\16"},
     {"truncation", "\1\13\3\16"},
     {"cut_done", "\1\13\3\16\21"},
+    {"snapshot_length", "\1\13"},
+    {"snapshot_write", "\1\13\15"},
     {"class", "\1\2"},
     {"crc32", ""},
     {"crc32_update", ""},
@@ -120,9 +124,11 @@ static const struct {
     {"pack", "\1\3"},
     {"unpack", "\1\3"},
     {"fragmentation_cutoff", "\1\16"},
+    {"snapshot_step", "\1\4\6\23"},
+    {"snapshot_read", "\1\4\6\23"},
 };
 
-enum { LAST_REFUSAL = WENTUHORO_GAP_NOT_ZERO };
+enum { LAST_REFUSAL = WENTUHORO_WRONG_BLOCK };
 
 static uint64_t answered[CALLS][LAST_REFUSAL + 1]; /* by call and refusal, 0 for a grant */
 static uint64_t judged;
@@ -133,11 +139,11 @@ static size_t ids, slots; /* as claimed to the call */
 static size_t true_ids, true_slots; /* that the slices are made for */
 static size_t wrong_slice; /* that gets a wrong length; MOST_SLICES for none */
 
-/* Files of more than 16 slots are cut with a margin. */
+/* Files of more than 16 slots are cut with a margin; a snapshot of more than 20 rows has two blocks. */
 static void choose_capacities(enum call call, bool large) {
-    bool cuts = call == TRUNCATION || call == CUT_DONE;
-    true_ids = large ? WENTUHORO_MOST_IDS : 2 + below(5);
-    true_slots = large ? WENTUHORO_MOST_SLOTS : cuts && in_hundred(50) ? 16 + below(85) : 1 + below(4);
+    bool cuts = call == TRUNCATION || call == CUT_DONE, snapshots = call == SNAPSHOT_LENGTH || call == SNAPSHOT_WRITE;
+    true_ids = large ? WENTUHORO_MOST_IDS : snapshots && in_hundred(50) ? 15 + below(60) : 2 + below(5);
+    true_slots = large ? WENTUHORO_MOST_SLOTS : (cuts || snapshots) && in_hundred(50) ? 16 + below(85) : 1 + below(4);
     ids = true_ids;
     slots = true_slots;
     if (in_hundred(2)) ids = ONE_OF(0, 1, 65537, UINT64_MAX, true_ids + 1);
@@ -185,6 +191,41 @@ static void fill_tallies(struct slice *s) {
                       : hint ? ONE_OF(0, 0, 0, 1, below(true_slots + 2), true_slots, UINT64_MAX)
                              : i >= 395 ? ONE_OF(0, 0, below(true_slots), true_slots - 1, true_slots, UINT64_MAX) : ONE_OF(0, 0, 1, UINT64_MAX);
     }
+}
+
+/* Every byte of the ids' rows and of the first kept ones; the others' are all the same. */
+static void fill_carried(struct slice *s) {
+    size_t rows = (true_ids + 4) * WENTUHORO_CARRIED_WIDTH;
+    memset(s->at, (int)below(256), s->length);
+    for (size_t i = 0; i < s->length && i < rows; i++) s->at[i] = (uint8_t)word();
+}
+
+/* Ids with a slot each, or without a location, but for one now and then: so that whole snapshots come too. */
+static void agree_all(struct slice *id_marks, struct slice *locations, struct slice *slot_marks, struct slice *owners) {
+    const uint64_t slabs[3] = {0, 1, 77};
+    for (size_t id = 1; id < true_ids; id++) {
+        size_t slab = (size_t)slabs[id % 3], slot = id / 3, at = slab * true_slots + slot;
+        bool stored = slot < true_slots && in_hundred(90);
+        if (id < id_marks->length && stored) id_marks->at[id] = 1;
+        if (id < locations->length) words(locations)[id] = stored ? (slab + 1) * (UINT64_C(1) << 56) + slot : 0;
+        if (slot_marks == NULL || !stored) continue;
+        if (at < slot_marks->length) slot_marks->at[at] = 1;
+        if (at < owners->length) words(owners)[at] = id;
+    }
+    if (in_hundred(25) && locations->length > 0) words(locations)[below(locations->length)] = any_location();
+}
+
+/* The bytes of the snapshot that tables of the right lengths give, by the ids that count as held. */
+static size_t snapshot_bytes(const struct slice *id_marks, const struct slice *locations, const struct slice *tallies) {
+    size_t rows = 0;
+    if (id_marks->length != true_ids || locations->length != true_ids || tallies->length != WENTUHORO_TALLY_WORDS)
+        return WENTUHORO_SNAPSHOT_BLOCK;
+    for (size_t id = 1; id < true_ids; id++) {
+        uint8_t mark = id_marks->at[id];
+        bool held = mark == 0 ? id < words(tallies)[237] : mark == 2 ? words(tallies)[316] == 0 : true;
+        rows += held && words(locations)[id] != 0;
+    }
+    return WENTUHORO_SNAPSHOT_BLOCK * (rows == 0 ? 1 : (rows + WENTUHORO_SNAPSHOT_BLOCK_ROWS - 1) / WENTUHORO_SNAPSHOT_BLOCK_ROWS);
 }
 
 /* Some ids whose tables agree, so that grants come too. */
@@ -238,24 +279,28 @@ static float any_ratio(void) {
 
 static uint64_t store_call(enum call call) {
     bool has_ids = call != ABANDON && call != DEFRAG && call != TRUNCATION && call != CUT_DONE && call != STATS && call != COUNTERS;
-    bool whole = call == OFFER || call == COMMIT || call == FRESH || call == REBUILD;
-    bool has_slots = call != NEW_ID && call != STATS && call != COUNTERS;
+    bool whole = call == OFFER || call == COMMIT || call == FRESH || call == REBUILD || call == SNAPSHOT_WRITE;
+    bool has_slots = call != NEW_ID && call != STATS && call != COUNTERS && call != SNAPSHOT_LENGTH;
     bool writes_all = call == COMMIT || call == FRESH || call == REBUILD;
     bool located = whole || call == LOOKUP || call == DEFRAG;
     bool has_batch = call != LOOKUP && call != STATS && call != COUNTERS;
-    struct slice *im = NULL, *lo = NULL, *sm = NULL, *ow = NULL, *ba = NULL, *ta;
+    struct slice *im = NULL, *lo = NULL, *sm = NULL, *ow = NULL, *ba = NULL, *ta, *ca = NULL;
     if (has_ids) fill_marks(im = lend_near(1, true_ids, writes_all || call == NEW_ID || call == RELEASE));
-    if (located) fill_locations(lo = lend_near(8, true_ids, writes_all));
+    if (located || call == SNAPSHOT_LENGTH) fill_locations(lo = lend_near(8, true_ids, writes_all));
     bool writes_slots = writes_all || call == OFFER || call == ABANDON || call == RELEASE;
     if (has_slots) fill_marks(sm = lend_near(1, WENTUHORO_SLABS * true_slots, writes_slots));
     if (located) fill_owners(ow = lend_near(8, WENTUHORO_SLABS * true_slots, writes_all));
     if (has_batch) fill_batch(ba = lend_near(8, WENTUHORO_BATCH_WORDS, writes_all || call == OFFER || call == ABANDON));
-    bool counts_only = call == LOOKUP || call == STATS || call == COUNTERS || call == DEFRAG;
+    bool snapshots = call == SNAPSHOT_LENGTH || call == SNAPSHOT_WRITE;
+    bool counts_only = call == LOOKUP || call == STATS || call == COUNTERS || call == DEFRAG || snapshots;
     fill_tallies(ta = lend_near(8, WENTUHORO_TALLY_WORDS, !counts_only));
-    if (has_slots) agree(im, lo, sm, ow);
+    size_t carried_len = wentuhoro_carried_len(WENTUHORO_CARRIED_ROWS(true_ids));
+    if (whole || call == LOOKUP) fill_carried(ca = lend_near(1, carried_len, writes_all || call == OFFER));
+    if (snapshots && in_hundred(60)) agree_all(im, lo, sm, ow);
+    else if (has_slots) agree(im, lo, sm, ow);
     number(ids);
     number(slots);
-    struct slice *a, *b, *c, *d;
+    struct slice *a, *b, *c, *d, *e;
     size_t count;
     uint64_t n, t;
     float ratio;
@@ -267,22 +312,26 @@ static uint64_t store_call(enum call call) {
     case LOOKUP:
         n = number(any_id());
         a = lend_near(8, 1, true);
+        b = lend_near(1, WENTUHORO_CARRIED_WIDTH, true);
         keep_before();
-        return wentuhoro_lookup(ids, slots, B(im), P(lo), B(sm), P(ow), P(ta), n, P(a));
+        return wentuhoro_lookup(ids, slots, B(im), P(lo), B(sm), P(ow), P(ta), B(ca), n, P(a), B(b));
     case OFFER:
         count = in_hundred(97) ? below(4) : 255 + below(3);
         a = lend_near(8, count, false);
         b = lend_near(1, count, false);
         c = lend_near(8, count, false);
-        d = lend_near(8, count, true);
+        d = lend_near(1, wentuhoro_carried_len(count), false);
+        e = lend_near(8, count, true);
         for (size_t i = 0; i < a->length; i++) words(a)[i] = any_id();
         for (size_t i = 0; i < b->length; i++) b->at[i] = in_hundred(75);
         for (size_t i = 0; i < c->length; i++) words(c)[i] = ONE_OF(3, 3, 59, 60, UINT64_C(17179869172), UINT64_C(17179869173), UINT64_MAX);
+        for (size_t i = 0; i < d->length; i++) d->at[i] = (uint8_t)word();
         keep_before();
-        return wentuhoro_offer(ids, slots, B(im), P(lo), B(sm), P(ow), P(ba), P(ta), P(a), (const bool *)b->at, b->length, P(c), P(d));
+        return wentuhoro_offer(ids, slots, B(im), P(lo), B(sm), P(ow), P(ba), P(ta), B(ca), P(a), (const bool *)b->at, b->length, P(c),
+                               B(d), P(e));
     case COMMIT:
         keep_before();
-        return wentuhoro_commit(ids, slots, B(im), P(lo), B(sm), P(ow), P(ba), P(ta));
+        return wentuhoro_commit(ids, slots, B(im), P(lo), B(sm), P(ow), P(ba), P(ta), B(ca));
     case ABANDON:
         keep_before();
         return wentuhoro_abandon(ids, slots, B(sm), P(ba), P(ta));
@@ -291,15 +340,17 @@ static uint64_t store_call(enum call call) {
         return wentuhoro_release(ids, slots, B(im), B(sm), P(ba), P(ta));
     case FRESH:
         keep_before();
-        return wentuhoro_fresh(ids, slots, B(im), P(lo), B(sm), P(ow), P(ba), P(ta));
+        return wentuhoro_fresh(ids, slots, B(im), P(lo), B(sm), P(ow), P(ba), P(ta), B(ca));
     case REBUILD:
         count = below(5);
         a = lend_near(8, count, false);
         b = lend_near(8, count, false);
+        c = lend_near(1, wentuhoro_carried_len(count), false);
         for (size_t i = 0; i < a->length; i++) words(a)[i] = any_id();
         for (size_t i = 0; i < b->length; i++) words(b)[i] = in_hundred(80) ? good_location() : any_location();
+        for (size_t i = 0; i < c->length; i++) c->at[i] = (uint8_t)word();
         keep_before();
-        return wentuhoro_rebuild(ids, slots, B(im), P(lo), B(sm), P(ow), P(ba), P(ta), P(a), P(b));
+        return wentuhoro_rebuild(ids, slots, B(im), P(lo), B(sm), P(ow), P(ba), P(ta), B(ca), P(a), P(b), B(c));
     case STATS:
         a = lend_near(8, 4, true);
         keep_before();
@@ -328,6 +379,15 @@ static uint64_t store_call(enum call call) {
         a = lend_near(8, 3, true);
         keep_before();
         return wentuhoro_truncation(ids, slots, B(sm), P(ba), P(ta), n, t, P(a));
+    case SNAPSHOT_LENGTH:
+        a = lend_near(8, 1, true);
+        keep_before();
+        return wentuhoro_snapshot_length(ids, slots, B(im), P(lo), P(ba), P(ta), P(a));
+    case SNAPSHOT_WRITE:
+        count = snapshot_bytes(im, lo, ta);
+        a = lend_near(1, ONE_OF(count, count, count, count, count, count, count + WENTUHORO_SNAPSHOT_BLOCK, count - WENTUHORO_SNAPSHOT_BLOCK), true);
+        keep_before();
+        return wentuhoro_snapshot_write(ids, slots, B(im), P(lo), B(sm), P(ow), P(ba), P(ta), B(ca), B(a));
     default:
         abort();
     }
@@ -365,8 +425,105 @@ static struct slice *any_cookie(void) {
     return s;
 }
 
+/* ---- snapshot files, whole and damaged */
+
+enum { MOST_BLOCKS = 4, BLOCK = WENTUHORO_SNAPSHOT_BLOCK, ROWS = WENTUHORO_SNAPSHOT_BLOCK_ROWS, ROW = 24, CHECKED = BLOCK - 4 };
+
+static void put_number(uint8_t *at, size_t width, uint64_t value) {
+    for (size_t i = 0; i < width; i++) at[i] = (uint8_t)(value >> (8 * i));
+}
+
+static void sign_block(uint8_t *block) { put_number(block + CHECKED, 4, wentuhoro_crc32(block, CHECKED) ^ 0xAF); }
+
+/* A file of some rows, with ids that ascend; how many bytes. */
+static size_t whole_file(uint8_t *file) {
+    size_t rows = (size_t)ONE_OF(0, 1, 2, 19, 20, 21, 39, 40, 41, below(61), below(61)), blocks = rows == 0 ? 1 : (rows + ROWS - 1) / ROWS;
+    uint64_t id = ONE_OF(0, 1, word() >> 1);
+    memset(file, 0, blocks * BLOCK);
+    for (size_t row = 0; row < rows; row++, id += 1 + (in_hundred(50) ? 0 : word() >> ONE_OF(8, 32, 60))) {
+        uint8_t *at = file + row / ROWS * BLOCK + 8 + row % ROWS * ROW;
+        put_number(at, 8, id);
+        put_number(at + 8, 8, word());
+        put_number(at + 16, 8, in_hundred(90) ? good_location() : any_location());
+    }
+    for (size_t block = 0; block < blocks; block++) {
+        uint8_t *at = file + block * BLOCK;
+        put_number(at, 4, block);
+        put_number(at + 4, 2, block + 1 < blocks ? ROWS : rows - block * ROWS);
+        put_number(at + 6, 2, 1);
+        sign_block(at);
+    }
+    return blocks * BLOCK;
+}
+
+/* One thing wrong, or what may be; how many bytes there are then. */
+static size_t damage(uint8_t *file, size_t bytes) {
+    size_t blocks = bytes / BLOCK;
+    uint8_t *block = file + below(blocks) * BLOCK, *other = file + below(blocks) * BLOCK, kept[BLOCK];
+    switch (below(10)) {
+    case 0:
+        block[below(BLOCK)] ^= (uint8_t)(1 << below(8));
+        return bytes;
+    case 1:
+        put_number(block, 4, ONE_OF(0, 1, 2, 3, 256, UINT32_MAX));
+        return bytes;
+    case 2:
+        put_number(block + 4, 2, ONE_OF(0, 1, 19, 20, 21, 256, 65535));
+        return bytes;
+    case 3:
+        put_number(block + 6, 2, ONE_OF(0, 2, 256, 257, 65535));
+        return bytes;
+    case 4: /* a row's id becomes another row's, or one beside it */
+        memcpy(block + 8 + below(ROWS) * ROW, other + 8 + below(ROWS) * ROW, 8);
+        block[8 + below(ROWS) * ROW] += (uint8_t)ONE_OF(0, 0, 1, 255);
+        return bytes;
+    case 5:
+        block[ONE_OF(488, 507, 488 + below(20), 8 + below(480))] = (uint8_t)(1 + below(255));
+        return bytes;
+    case 6: /* swapped, or twice */
+        memcpy(kept, block, BLOCK);
+        memcpy(block, other, BLOCK);
+        if (in_hundred(50)) memcpy(other, kept, BLOCK);
+        return bytes;
+    case 7: /* the last block gone, or one too many */
+        if (in_hundred(50) || blocks == MOST_BLOCKS) return bytes - BLOCK;
+        memcpy(file + bytes, block, BLOCK);
+        if (in_hundred(50)) put_number(file + bytes, 4, blocks);
+        return bytes + BLOCK;
+    case 8: /* a block begins with the id that the one before it ends with, or one beside that */
+        if (block == file) return bytes;
+        memcpy(block + 8, block - BLOCK + 8 + (ROWS - 1) * ROW, 8);
+        block[8] += (uint8_t)ONE_OF(0, 0, 1, 255);
+        return bytes;
+    default: /* a row taken out of the middle, and its place left empty */
+        memset(block + 8 + below(ROWS) * ROW, 0, ROW);
+        return bytes;
+    }
+}
+
+/* Arbitrary bytes; or a file, as it is or damaged, its checks mended or not. */
+static struct slice *any_file(void) {
+    static uint8_t file[MOST_BLOCKS * BLOCK];
+    size_t bytes = whole_file(file);
+    unsigned damages = in_hundred(35) ? 0 : 1 + (unsigned)below(2);
+    while (damages-- > 0 && bytes > 0) bytes = damage(file, bytes);
+    for (size_t block = 0; block < bytes / BLOCK; block++)
+        if (in_hundred(92)) sign_block(file + block * BLOCK);
+    if (in_hundred(4)) {
+        bytes = ONE_OF(0, 1, BLOCK - 1, BLOCK, BLOCK + 1, 2 * BLOCK, below(sizeof file));
+        for (size_t i = 0; i < bytes; i++) file[i] = (uint8_t)word();
+    }
+    struct slice *s = lend_near(1, bytes, false);
+    memcpy(s->at, file, s->length < bytes ? s->length : bytes);
+    return s;
+}
+
+static void fill_words(struct slice *s) {
+    for (size_t i = 0; i < s->length; i++) words(s)[i] = word();
+}
+
 static uint64_t leaf_call(enum call call) {
-    struct slice *a, *b;
+    struct slice *a, *b, *c, *d, *e;
     size_t size = (size_t)wentuhoro_slab_size((size_t)below(26)), n;
     uint64_t fanout;
     switch (call) {
@@ -430,6 +587,25 @@ static uint64_t leaf_call(enum call call) {
         a = lend_near(8, 2, true);
         keep_before();
         return wentuhoro_fragmentation_cutoff(numbers[0], numbers[1], ratio, P(a));
+    case SNAPSHOT_STEP:
+        a = any_file();
+        n = a->length / BLOCK;
+        number(n > 0 && in_hundred(90) ? below(n) : ONE_OF(n, n + 1, UINT64_C(1) << 55, UINT64_C(1) << 56, UINT64_MAX));
+        n = numbers[0] < n ? a->at[numbers[0] * BLOCK + 4] : 0;
+        number(in_hundred(90) ? ONE_OF(below(n + 1), n, n == 0 ? 0 : n - 1) : ONE_OF(n + 1, ROWS, UINT64_C(1) << 60, UINT64_MAX));
+        b = lend_near(8, 6, true);
+        keep_before();
+        return wentuhoro_snapshot_step(B(a), numbers[0], numbers[1], P(b));
+    case SNAPSHOT_READ:
+        a = any_file();
+        n = wentuhoro_snapshot_most_rows(a->length);
+        n = (size_t)ONE_OF(n, n, n, n + 1, n + below(30), n == 0 ? 0 : n - 1);
+        fill_words(b = lend_near(8, n, true));
+        fill_words(c = lend_near(8, n, true));
+        fill_bytes(d = lend_near(1, wentuhoro_carried_len(n), true));
+        e = lend_near(8, 1, true);
+        keep_before();
+        return wentuhoro_snapshot_read(B(a), P(b), P(c), B(d), P(e));
     default:
         abort();
     }
@@ -494,7 +670,7 @@ static void tell(enum call call, uint64_t status) {
 
 static void one_case(bool large) {
     seed_of_case = seed;
-    enum call call = (enum call)(in_hundred(85) ? below(CLASS) : CLASS + below(CALLS - CLASS));
+    enum call call = (enum call)(in_hundred(80) ? below(CLASS) : CLASS + below(CALLS - CLASS));
     lent = number_count = 0;
     choose_capacities(call, large && call < CLASS);
     uint64_t status = call < CLASS ? store_call(call) : leaf_call(call);

@@ -6,24 +6,26 @@ from array import array
 
 sys.path.insert(0, os.path.join(os.path.dirname(os.path.abspath(__file__)), ".."))
 import model
-from model import ALLOCATORS, BATCH_WORDS, KEEP, SLABS, Refused, refused
+import snapshot
+from model import ALLOCATORS, BATCH_WORDS, CARRIED_WIDTH, KEEP, MOST_UPDATES, SLABS, Refused, refused
 
 CALLS = (
     "new_id", "lookup", "offer", "commit", "abandon", "release", "fresh", "rebuild", "stats", "counters", "defrag", "truncation", "cut_done",
+    "snapshot_length", "snapshot_write",
     "class", "crc32", "crc32_update", "frame_write", "frame_read", "cookie_write", "cookie_read", "cookie_verify", "pack", "unpack",
-    "fragmentation_cutoff",
+    "fragmentation_cutoff", "snapshot_step", "snapshot_read",
 )
 
-TABLES = ("id_marks", "locations", "slot_marks", "owners", "batch", "tallies")
+TABLES = ("id_marks", "locations", "slot_marks", "owners", "batch", "tallies", "carried")
 # The tables that each call is lent, in order.
 LENT = {
-    "new_id": (0, 4, 5), "lookup": (0, 1, 2, 3, 5), "offer": range(6), "commit": range(6), "abandon": (2, 4, 5), "release": (0, 2, 4, 5),
-    "fresh": range(6), "rebuild": range(6), "stats": (5,), "counters": (5,), "defrag": (1, 2, 3, 4, 5), "truncation": (2, 4, 5),
-    "cut_done": (2, 4, 5),
+    "new_id": (0, 4, 5), "lookup": (0, 1, 2, 3, 5, 6), "offer": range(7), "commit": range(7), "abandon": (2, 4, 5),
+    "release": (0, 2, 4, 5), "fresh": range(7), "rebuild": range(7), "stats": (5,), "counters": (5,), "defrag": (1, 2, 3, 4, 5),
+    "truncation": (2, 4, 5), "cut_done": (2, 4, 5), "snapshot_length": (0, 1, 4, 5), "snapshot_write": range(7),
 }
 TALLY_WORDS = 5 * ALLOCATORS + SLABS
-# How many values a call answers in a slice of its own.
-VALUES = {"new_id": 1, "lookup": 1, "stats": 4, "defrag": 1, "truncation": 3}
+# How many values a call answers in each of its last slices.
+VALUES = {"new_id": (1,), "lookup": (1, CARRIED_WIDTH), "stats": (4,), "defrag": (1,), "truncation": (3,), "snapshot_length": (1,)}
 
 
 class Case:
@@ -48,22 +50,22 @@ def read_words(stream, count):
 
 
 def status_of(answer):
-    return answer.number + 256 * answer.index if refused(answer) else 0
+    return (answer.number + 256 * answer.index) % 2**64 if refused(answer) else 0
 
 
 def table_lengths(ids, slots):
-    return (ids, ids, SLABS * slots, SLABS * slots, BATCH_WORDS, TALLY_WORDS)
+    return (ids, ids, SLABS * slots, SLABS * slots, BATCH_WORDS, TALLY_WORDS, CARRIED_WIDTH * (ids + MOST_UPDATES))
 
 
 def lent_wrongly(case):
-    """Refusal 1, but for the lists of offer, rebuild and defrag, which the model judges."""
+    """Refusal 1, but for the lists of offer, rebuild and defrag and a snapshot's file, which the model judges."""
     name, (ids, slots, *_) = case.name, case.numbers
     lengths = table_lengths(ids, slots)
     own = case.before[len(LENT[name]) :]
     return (
         not model.good_id_capacity(ids) or not model.good_slot_capacity(slots)
         or any(len(given) != lengths[table] for table, given in zip(LENT[name], case.before))
-        or name in VALUES and len(own[-1]) != VALUES[name]
+        or any(len(given) != length for given, length in zip(reversed(own), reversed(VALUES.get(name, ()))))
         or name == "counters" and any(len(rows) != ALLOCATORS for rows in own)
         or name == "defrag" and len(own[0]) != len(own[1])
     )
@@ -89,13 +91,20 @@ def store_call(case):
         return answer, [[answer]], store
     if name == "lookup":
         answer = store.lookup(*rest)
-        return answer, [[answer]], store
+        return answer, None if refused(answer) else [[answer.location], answer.carried], store
     if name == "offer":
-        ids_, stores, lengths, placed = own
-        answer = store.offer(list(ids_), [store != 0 for store in stores], list(lengths), len(placed))
-        return answer, [ids_, stores, lengths, answer], store
+        ids_, stores, lengths, carried, placed = own
+        answer = store.offer(list(ids_), [store != 0 for store in stores], list(lengths), carried, len(placed))
+        return answer, [ids_, stores, lengths, carried, answer], store
     if name == "rebuild":
-        return store.rebuild(*(list(rows) for rows in own)), own, store
+        ids_, locations, carried = own
+        return store.rebuild(list(ids_), list(locations), carried), own, store
+    if name == "snapshot_length":
+        answer = store.snapshot_length()
+        return answer, [[answer]], store
+    if name == "snapshot_write":
+        answer = store.snapshot_write(len(own[0]))
+        return answer, None if refused(answer) else [file_of(answer)], store
     if name in ("stats", "counters"):
         answer = store.counters()
         granted, freed = zip(*answer)
@@ -115,6 +124,26 @@ def store_call(case):
     if name == "cut_done":
         return store.report_cut(*rest), [], store
     return getattr(store, name)(), [], store
+
+
+def file_of(rows):
+    return snapshot.write([snapshot.Row(row.id, int.from_bytes(row.carried, "little"), row.location) for row in rows])
+
+
+def snapshot_step(file, position):
+    answer = snapshot.step(file, snapshot.Position(*position))
+    if answer == snapshot.END:
+        return answer, [0] * 6
+    return answer, None if refused(answer) else [1, *answer[0], *answer[1]]
+
+
+def snapshot_read(file, ids, locations, carried):
+    """Rows past those of the file keep what they held."""
+    rows = snapshot.read(file, len(ids), len(locations), len(carried))
+    if refused(rows):
+        return rows, None
+    columns = [row.id for row in rows], [row.location for row in rows], model.carried_of([row.collection for row in rows])
+    return rows, [file, *(list(column) + list(lent[len(column) :]) for column, lent in zip(columns, (ids, locations, carried))), [len(rows)]]
 
 
 def leaf_call(case):
@@ -146,6 +175,11 @@ def leaf_call(case):
     if name == "unpack":
         answer = wrong_values(3) or model.unpack(*numbers)
         return answer, [[0, 0, 0] if answer is None else [1, *answer]]
+    if name == "snapshot_step":
+        answer, values = (wrong_values(6), None) if wrong_values(6) else snapshot_step(slices[0], numbers)
+        return answer, [slices[0], values]
+    if name == "snapshot_read":
+        return (wrong_values(1), None) if wrong_values(1) else snapshot_read(*slices[:4])
     answer = wrong_values(2) or cutoff(*numbers)
     return answer, [[0, 0] if answer is None else [1, answer]]
 

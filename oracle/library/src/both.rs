@@ -9,7 +9,7 @@ use crate::judge::{Judge, Rust};
 use crate::mapper_store::MapperStore;
 use crate::our_heap::OurHeap;
 use crate::ours::Ours;
-use crate::{answer, cuts, full, histories, leaf_lines, tiny, Store};
+use crate::{answer, cuts, full, histories, leaf_lines, snapshots, tiny, Store};
 
 #[derive(Default)]
 pub struct Counts {
@@ -79,8 +79,20 @@ impl Both {
         Judge { rust: &*self.rust, ids: self.ids, slots: self.slots }
     }
 
-    /// The Rust's answer; of a cut, which is a listed difference, in the port's words.
+    /// The file of the Rust's rows, with the collections that they were offered with; or where the one that was written is another.
+    fn snapshot(&mut self) -> String {
+        let live = self.judge().live();
+        let ours = self.ours.ours();
+        let collections = &ours.tables.collections;
+        let rows: Vec<snapshots::Row> = live.into_iter().map(|(id, location)| [id, collections[id as usize], location]).collect();
+        snapshots::expected(&rows, &ours.written)
+    }
+
+    /// The Rust's answer; of a cut, which is a listed difference, in the port's words; and of what it has not, what its state makes of it.
     fn rust_says(&mut self, counts: &mut Counts, call: &Call, line: &str) -> String {
+        if matches!(call, Call::Snapshot) {
+            return self.snapshot();
+        }
         let marks = self.rust.files().map(cuts::high_marks);
         let rust = &mut self.rust;
         let said = catch_unwind(AssertUnwindSafe(|| answer(&mut **rust, line))).unwrap_or_else(|_| "a panic of the Rust".into());

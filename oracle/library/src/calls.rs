@@ -21,6 +21,8 @@ pub enum Call {
     Defrag(u32),
     /// The whole state.
     Dump,
+    /// A snapshot of the live rows, written and read back. The Rust has none.
+    Snapshot,
     /// Of a heap.
     Read(u64),
     Slot(u64, u64),
@@ -47,6 +49,7 @@ impl Call {
             Call::Counter(allocator) => format!("counter {allocator}"),
             Call::Defrag(bits) => format!("defrag {bits}"),
             Call::Dump => format!("dump {ids} {slots}"),
+            Call::Snapshot => "snapshot".into(),
             Call::Read(id) => format!("read {id}"),
             Call::Slot(slab, slot) => format!("slot {slab} {slot}"),
             Call::High(slab) => format!("high {slab}"),

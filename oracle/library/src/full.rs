@@ -37,6 +37,7 @@ impl Full<'_> {
     fn whole_state(&mut self) {
         self.call(Call::Dump);
         self.call(Call::Counters);
+        self.call(Call::Snapshot);
         RATIOS.iter().for_each(|bits| self.call(Call::Defrag(*bits)));
     }
 }

@@ -90,7 +90,8 @@ impl History<'_> {
     }
 
     fn call_while_open(&mut self) -> bool {
-        match self.chance.among(0, 6) {
+        match self.chance.among(0, 7) {
+            7 => self.call(Call::Snapshot),
             0 => self.lookup(),
             1 => self.call(Call::Counters),
             2 => self.call(Call::Dump),
@@ -192,6 +193,7 @@ impl History<'_> {
                     let end = self.chance.of(&[0, 1]);
                     self.call(if end == 0 { Call::Commit } else { Call::Abandon })
                 }
+                99..=100 => self.call(Call::Snapshot),
                 _ if self.on_files => self.read(),
                 _ => true,
             };
@@ -200,6 +202,7 @@ impl History<'_> {
             }
         }
         self.call(Call::Dump);
+        self.call(Call::Snapshot);
     }
 }
 

@@ -86,7 +86,7 @@ impl Judge<'_> {
             Call::Lookup(id) => first_of(&[(!self.held().get(*id as usize).unwrap_or(&false) || location(self.rust.mapper(), *id) == 0, 8)]),
             Call::Offer(updates) | Call::Batch(updates) => self.refused_batch(open, updates),
             Call::Commit | Call::Abandon => first_of(&[(!open, 12)]),
-            Call::Release => first_of(&[(open, 11)]),
+            Call::Release | Call::Snapshot => first_of(&[(open, 11)]),
             Call::Defrag(bits) => first_of(&[(open, 11), (!(f32::from_bits(*bits) > 0.0 && f32::from_bits(*bits) <= 1.0), 14)]),
             Call::Rebuild(rows) => self.refused_rows(rows),
             _ => None,
@@ -110,6 +110,13 @@ impl Judge<'_> {
             }
         });
         held
+    }
+
+    /// Id and location of each object, in order.
+    pub fn live(&self) -> Vec<(u64, u64)> {
+        let held = self.held();
+        let located = (1..self.ids).filter(|id| held[*id as usize]).map(|id| (id, location(self.rust.mapper(), id)));
+        located.filter(|(_, location)| *location != 0).collect()
     }
 
     fn refused_batch(&self, open: bool, updates: &[Update]) -> Refusal {

@@ -66,7 +66,7 @@ impl OurHeap {
     fn read(&mut self, id: u64) -> String {
         let location = match self.ours.tables.lookup(id) {
             Err(_) => return "none".into(),
-            Ok(location) => location,
+            Ok((location, _)) => location,
         };
         match Slab::read(&self.slots[&address(location)]) {
             Err(refusal) => format!("refused {} {}", refusal.kind.number(), refusal.index),
@@ -148,7 +148,7 @@ pub fn print_morning() {
         tables.offer(batch).map(|_| tables.commit().unwrap()).unwrap_or_else(|status| panic!("{}", refused(status)));
     }
     for update in refill {
-        let (slab, slot) = address(tables.lookup(update.id).unwrap());
+        let (slab, slot) = address(tables.lookup(update.id).unwrap().0);
         println!("{} {slab} {slot}", update.id);
     }
 }

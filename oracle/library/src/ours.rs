@@ -4,7 +4,7 @@ use std::sync::OnceLock;
 
 use crate::tables::{Refused, Tables, Update, ALLOCATORS, HINT, MOST_UPDATES, SLABS, USED, WAITING};
 use crate::words::Words;
-use crate::Store;
+use crate::{snapshots, Store};
 
 /// The call whose answers are changed on purpose, or nothing.
 pub fn wrong() -> &'static str {
@@ -48,6 +48,8 @@ pub trait Resizable {
 #[derive(Clone)]
 pub struct Ours {
     pub tables: Tables,
+    /// The last snapshot.
+    pub written: Vec<u8>,
 }
 
 impl Resizable for Ours {
@@ -69,7 +71,7 @@ impl Ours {
     pub fn new(ids: usize, slots: usize) -> Ours {
         let mut tables = Tables::new(ids, slots);
         tables.fresh().unwrap();
-        Ours { tables }
+        Ours { tables, written: vec![] }
     }
 
     /// A batch of n has n + 1 in the batch's first word.
@@ -139,7 +141,24 @@ impl Ours {
             "abandon" => told(tables.abandon(), done),
             "batch" => told(tables.offer(&updates(words)), |placed| told(tables.commit(), |()| ok(placed))),
             "release" => told(tables.release(), done),
-            "lookup" => told(tables.lookup(words.number()), one),
+            "lookup" => told(tables.lookup(words.number()), |(location, _)| one(location)),
+            "found" => told(tables.lookup(words.number()), |(location, collection)| ok([location, collection])),
+            "carried" => {
+                let count = words.number();
+                tables.told = Some((0..count).map(|_| words.number()).collect());
+                done(())
+            }
+            "snapshot_length" => told(tables.snapshot_length(), one),
+            "snapshot_write" => told(tables.snapshot_write(words.number()), |file| one(snapshots::check_of_bodies(&file))),
+            "snapshot" => told(tables.snapshot_length().and_then(|length| tables.snapshot_write(length)), |mut file| {
+                let is_read_back = snapshots::read_back(tables, &file);
+                if wrong() == "location" {
+                    snapshots::move_last_row(&mut file);
+                }
+                let told = is_read_back.map_or_else(|broken| broken, |()| snapshots::told(&file));
+                self.written = file;
+                told
+            }),
             "defrag" => told(tables.defrag(words.ratio()), |rows| {
                 ok(std::iter::once(rows.len() as u64).chain(rows.into_iter().flat_map(|(id, location)| [id, location])))
             }),
@@ -172,7 +191,7 @@ impl Store for Ours {
     }
 }
 
-/// All that later answers can depend on, counters and high marks aside.
+/// All that later answers can depend on, counters, high marks and what rows carry aside.
 pub fn state(ours: &Ours) -> Vec<u8> {
     let tables = &ours.tables;
     let mut state = [tables.id_marks.values(), tables.slot_marks.values()].concat();

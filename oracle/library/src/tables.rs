@@ -1,7 +1,7 @@
-//! The six tables, guarded, and every exported store call on them.
+//! The seven tables, guarded, and every exported store call on them.
 //!
 //! After each call: every canary lives; where it refused, every lent byte is as it was; where it granted, what it is lent for reading only
-//! is. What is found broken is told in `broken`.
+//! is; and rows carry what the last committed Store or the rebuild said. What is found broken is told in `broken`.
 use crate::guarded::{Canary, Guarded};
 use wentuhoro::raw;
 
@@ -10,6 +10,7 @@ pub const ALLOCATORS: usize = 79;
 pub const BATCH_WORDS: usize = 513;
 pub const TALLY_WORDS: usize = 473;
 pub const MOST_UPDATES: usize = 256;
+pub const CARRIED_WIDTH: usize = 8;
 pub const USED: usize = 158;
 pub const HINT: usize = 237;
 pub const WAITING: usize = 316;
@@ -28,6 +29,13 @@ pub struct Tables {
     pub owners: Guarded<u64>,
     pub batch: Guarded<u64>,
     pub tallies: Guarded<u64>,
+    pub carried: Guarded<u8>,
+    /// The collections of the next offer or rebuild, where they were told; else they follow from the updates and rows.
+    pub told: Option<Vec<u64>>,
+    /// What `carried` has to hold, a collection for each row: the ids', then the kept updates'.
+    pub collections: Vec<u64>,
+    /// Id, and whether it is a Store, of each update of the last granted offer.
+    offered: Vec<(u64, bool)>,
     /// Whether the tables are copied before each call, to compare them after it. Large ones are copied where a refusal is expected.
     pub watched: bool,
     pub broken: Option<String>,
@@ -67,6 +75,23 @@ macro_rules! written {
     (writes $table:ident) => { stringify!($table) };
 }
 
+impl Update {
+    /// One that hardly another update has.
+    fn collection(&self) -> u64 {
+        mixed(self.id ^ self.seed << 16 ^ self.length << 24)
+    }
+}
+
+fn mixed(number: u64) -> u64 {
+    let spread = (number ^ number >> 31).wrapping_mul(0x9E37_79B9_7F4A_7C15);
+    spread ^ spread >> 29
+}
+
+/// Collections as the library is lent them.
+pub fn packed(collections: &[u64]) -> Vec<u8> {
+    collections.iter().flat_map(|collection| collection.to_le_bytes()).collect()
+}
+
 fn granted<T>(status: u64, answer: T) -> Result<T, Refused> {
     if status == 0 { Ok(answer) } else { Err(status) }
 }
@@ -83,26 +108,54 @@ impl Tables {
             owners: Guarded::unwritten(SLABS * slots),
             batch: Guarded::unwritten(BATCH_WORDS),
             tallies: Guarded::unwritten(TALLY_WORDS),
+            carried: Guarded::unwritten((ids + MOST_UPDATES) * CARRIED_WIDTH),
+            told: None,
+            collections: vec![u64::from_le_bytes([u8::UNWRITTEN; CARRIED_WIDTH]); ids + MOST_UPDATES],
+            offered: vec![],
             watched: ids.max(slots) <= 1_024,
             broken: None,
         }
     }
 
     pub fn fresh(&mut self) -> Result<(), Refused> {
-        let status =
-            lend!(self, wentuhoro_fresh: writes id_marks, writes locations, writes slot_marks, writes owners, writes batch, writes tallies);
+        let status = lend!(
+            self, wentuhoro_fresh: writes id_marks, writes locations, writes slot_marks, writes owners, writes batch, writes tallies,
+            writes carried
+        );
+        if status == 0 {
+            self.collections.fill(0);
+        }
+        self.look_at_carried();
         granted(status, ())
+    }
+
+    /// A row of an object that lies there already carries what it did.
+    fn collections_of(&self, rows: &[(u64, u64)]) -> Vec<u64> {
+        let collection = |&(id, location): &(u64, u64)| match self.locations.values().get(id as usize) {
+            Some(known) if *known == location => self.collections[id as usize],
+            _ => mixed(id ^ location),
+        };
+        rows.iter().map(collection).collect()
     }
 
     pub fn rebuild(&mut self, rows: &[(u64, u64)]) -> Result<(), Refused> {
         let (ids, locations): (Vec<u64>, Vec<u64>) = rows.iter().copied().unzip();
-        let (row_ids, row_locations) = (Guarded::of(&ids), Guarded::of(&locations));
+        let collections = self.told.take().unwrap_or_else(|| self.collections_of(rows));
+        let carried = packed(&collections);
+        let (row_ids, row_locations, row_carried) = (Guarded::of(&ids), Guarded::of(&locations), Guarded::of(&carried));
         let status = lend!(
-            self, wentuhoro_rebuild: writes id_marks, writes locations, writes slot_marks, writes owners, writes batch, writes tallies;
-            row_ids.as_ptr(), row_ids.len(), row_locations.as_ptr(), row_locations.len()
+            self, wentuhoro_rebuild: writes id_marks, writes locations, writes slot_marks, writes owners, writes batch, writes tallies,
+            writes carried;
+            row_ids.as_ptr(), row_ids.len(), row_locations.as_ptr(), row_locations.len(), row_carried.as_ptr(), row_carried.len()
         );
         self.look_at_input(&row_ids, &ids);
         self.look_at_input(&row_locations, &locations);
+        self.look_at_input(&row_carried, &carried);
+        if status == 0 {
+            self.collections.fill(0);
+            ids.iter().zip(collections).for_each(|(id, collection)| self.collections[*id as usize] = collection);
+        }
+        self.look_at_carried();
         granted(status, ())
     }
 
@@ -113,37 +166,60 @@ impl Tables {
         granted(status, id.values()[0])
     }
 
-    pub fn lookup(&mut self, id: u64) -> Result<u64, Refused> {
-        let mut location = Guarded::unwritten(1);
+    /// The location and the collection.
+    pub fn lookup(&mut self, id: u64) -> Result<(u64, u64), Refused> {
+        let (mut location, mut row) = (Guarded::unwritten(1), Guarded::<u8>::unwritten(CARRIED_WIDTH));
         let status = lend!(
-            self, wentuhoro_lookup: reads id_marks, reads locations, reads slot_marks, reads owners, reads tallies;
-            id, location.as_mut_ptr(), location.len()
+            self, wentuhoro_lookup: reads id_marks, reads locations, reads slot_marks, reads owners, reads tallies, reads carried;
+            id, location.as_mut_ptr(), location.len(), row.as_mut_ptr(), row.len()
         );
         self.look_at_answer(&location, status);
-        granted(status, location.values()[0])
+        self.look_at_answer(&row, status);
+        let collection = u64::from_le_bytes(row.values().try_into().unwrap());
+        if status == 0 && self.collections[id as usize] != collection {
+            self.broken = Some(format!("{id} is of collection {}, not {collection}", self.collections[id as usize]));
+        }
+        granted(status, (location.values()[0], collection))
     }
 
     pub fn offer(&mut self, updates: &[Update]) -> Result<Vec<u64>, Refused> {
         let ids: Vec<u64> = updates.iter().map(|update| update.id).collect();
         let stores: Vec<bool> = updates.iter().map(|update| update.store).collect();
         let lengths: Vec<u64> = updates.iter().map(|update| update.length).collect();
+        let collections = self.told.take().unwrap_or_else(|| updates.iter().map(Update::collection).collect());
+        let carried = packed(&collections);
         let (lent_ids, lent_stores, lent_lengths) = (Guarded::of(&ids), Guarded::of(&stores), Guarded::of(&lengths));
-        let mut placed = Guarded::unwritten(updates.len());
+        let (lent_carried, mut placed) = (Guarded::of(&carried), Guarded::unwritten(updates.len()));
         let status = lend!(
-            self, wentuhoro_offer: reads id_marks, reads locations, writes slot_marks, reads owners, writes batch, writes tallies;
+            self, wentuhoro_offer: reads id_marks, reads locations, writes slot_marks, reads owners, writes batch, writes tallies,
+            writes carried;
             lent_ids.as_ptr(), lent_ids.len(), lent_stores.as_ptr(), lent_stores.len(), lent_lengths.as_ptr(), lent_lengths.len(),
-            placed.as_mut_ptr(), placed.len()
+            lent_carried.as_ptr(), lent_carried.len(), placed.as_mut_ptr(), placed.len()
         );
         self.look_at_input(&lent_ids, &ids);
         self.look_at_input(&lent_stores, &stores);
         self.look_at_input(&lent_lengths, &lengths);
+        self.look_at_input(&lent_carried, &carried);
         self.look_at_answer(&placed, status);
+        if status == 0 {
+            self.collections[self.ids..self.ids + collections.len()].copy_from_slice(&collections);
+            self.offered = updates.iter().map(|update| (update.id, update.store)).collect();
+        }
+        self.look_at_carried();
         granted(status, placed.values().to_vec())
     }
 
     pub fn commit(&mut self) -> Result<(), Refused> {
-        let status =
-            lend!(self, wentuhoro_commit: writes id_marks, writes locations, writes slot_marks, writes owners, writes batch, writes tallies);
+        let status = lend!(
+            self, wentuhoro_commit: writes id_marks, writes locations, writes slot_marks, writes owners, writes batch, writes tallies,
+            writes carried
+        );
+        if status == 0 {
+            for (at, (id, store)) in self.offered.iter().enumerate() {
+                self.collections[*id as usize] = if *store { self.collections[self.ids + at] } else { 0 };
+            }
+        }
+        self.look_at_carried();
         granted(status, ())
     }
 
@@ -208,10 +284,31 @@ impl Tables {
         granted(lend!(self, wentuhoro_cut_done: reads slot_marks, reads batch, writes tallies; slab, t), ())
     }
 
+    pub fn snapshot_length(&mut self) -> Result<u64, Refused> {
+        let mut length = Guarded::unwritten(1);
+        let status = lend!(
+            self, wentuhoro_snapshot_length: reads id_marks, reads locations, reads batch, reads tallies;
+            length.as_mut_ptr(), length.len()
+        );
+        self.look_at_answer(&length, status);
+        granted(status, length.values()[0])
+    }
+
+    pub fn snapshot_write(&mut self, length: u64) -> Result<Vec<u8>, Refused> {
+        let mut file = Guarded::<u8>::unwritten(length as usize);
+        let status = lend!(
+            self, wentuhoro_snapshot_write: reads id_marks, reads locations, reads slot_marks, reads owners, reads batch, reads tallies,
+            reads carried;
+            file.as_mut_ptr(), file.len()
+        );
+        self.look_at_answer(&file, status);
+        granted(status, file.values().to_vec())
+    }
+
     // -- what a call must leave
 
     fn look_at_canaries(&mut self) {
-        let bytes = [&self.id_marks, &self.slot_marks].into_iter().all(Guarded::canaries_live);
+        let bytes = [&self.id_marks, &self.slot_marks, &self.carried].into_iter().all(Guarded::canaries_live);
         let words = [&self.locations, &self.owners, &self.batch, &self.tallies].into_iter().all(Guarded::canaries_live);
         if !(bytes && words) {
             self.broken = Some("a canary beside a table was written".into());
@@ -226,11 +323,18 @@ impl Tables {
             ("owners", self.owners == before.owners),
             ("batch", self.batch == before.batch),
             ("tallies", self.tallies == before.tallies),
+            ("carried", self.carried == before.carried),
         ];
         for (table, same) in kept {
             if !same && !may_write.contains(&table) {
                 self.broken = Some(format!("{call} wrote {table}"));
             }
+        }
+    }
+
+    fn look_at_carried(&mut self) {
+        if self.watched && self.carried.values() != packed(&self.collections) {
+            self.broken = Some("rows carry something else".into());
         }
     }
 
@@ -240,7 +344,7 @@ impl Tables {
         }
     }
 
-    fn look_at_answer(&mut self, answer: &Guarded<u64>, status: u64) {
+    fn look_at_answer<T: Canary>(&mut self, answer: &Guarded<T>, status: u64) {
         if !answer.canaries_live() || (status != 0 && !answer.is_unwritten()) {
             self.broken = Some("a lent answer was written on a refusal, or beside it".into());
         }
@@ -249,6 +353,7 @@ impl Tables {
     fn wrong_on_purpose(&mut self, status: u64) {
         match crate::ours::wrong() {
             "canary" => self.locations.write_past_the_end(0),
+            "carried" if status == 0 => self.carried.values_mut()[CARRIED_WIDTH] ^= 1,
             "refusal" if status != 0 => self.tallies.values_mut()[HIGH] ^= 1,
             _ => {}
         }

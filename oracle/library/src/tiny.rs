@@ -1,8 +1,8 @@
 //! Every history of a tiny store, breadth first.
 //!
-//! A state is all that the lent tables hold, counters and high marks aside, which no answer compared here but `counters` and `dump` reads:
-//! hints and waiting words are part of it, rows that no open batch uses are not. From each state every call is made, on both sides, from
-//! the calls that first reached it.
+//! A state is all that the lent tables hold, counters and high marks aside, which no answer compared here but `counters` and `dump` reads, and
+//! what rows carry, which decides nothing: hints and waiting words are part of it, rows that no open batch uses are not. From each state every
+//! call is made, on both sides, from the calls that first reached it.
 use std::collections::{HashSet, VecDeque};
 use std::hash::{DefaultHasher, Hash, Hasher};
 
@@ -115,6 +115,7 @@ pub fn closure(counts: &mut Counts, ids: u64, slots: u64, lengths: &[u64]) -> us
         let mut here = search.both_after(&path);
         here.call(counts, Call::Dump);
         here.call(counts, Call::Counters);
+        here.call(counts, Call::Snapshot);
         (0..=ids).for_each(|id| { here.call(counts, Call::Lookup(id)); });
         RATIOS.iter().for_each(|bits| { here.call(counts, Call::Defrag(*bits)); });
         for (at, call) in changing.iter().enumerate() {
