@@ -8,12 +8,13 @@
  * Values come back in a slice of exactly so many words ("One value: ..."); a slice of another length is refused with 1.
  *
  * Each call below has the refusals that it gives, in the order in which it looks for them. The index counts from 0: it is the update's
- * where a refusal is given per update, the row's where per row, the slab's for an offer's 10, and 0 elsewhere.
+ * where a refusal is given per update, the row's where per row, the slab's for an offer's 10, the block's where a snapshot is read, and 0
+ * elsewhere.
  *
  * No call allocates, locks, or keeps anything of its own between calls: a store is its tables. The stack that a call takes: some 66 KiB in
  * rebuild, 9 KiB in offer, 4 KiB in what computes a check, less elsewhere.
  *
- * A program that holds its tables in a struct wentuhoro_store uses the wentuhoro_store_ functions at the end, which pass the twelve
+ * A program that holds its tables in a struct wentuhoro_store uses the wentuhoro_store_ functions at the end, which pass the fourteen
  * pointers and lengths.
  */
 #ifndef WENTUHORO_H
@@ -35,7 +36,7 @@ enum wentuhoro_refusal {
     WENTUHORO_OUT_OF_RANGE = 3,        /* a slab, slot or packed location out of range */
     WENTUHORO_CHECK_DIFFERS = 4,       /* the check differs */
     WENTUHORO_TOO_LONG = 5,            /* a stored length, or an object to be written, longer than its slot takes */
-    WENTUHORO_UNKNOWN_VERSION = 6,     /* a cookie version that is not 1 */
+    WENTUHORO_UNKNOWN_VERSION = 6,     /* a version of a cookie or of a snapshot's block that is not 1 */
     WENTUHORO_FANOUT_DIFFERS = 7,      /* the fanout differs */
     WENTUHORO_NO_SUCH_ID = 8,          /* id 0, at or past capacity, not held, or (lookup) without location */
     WENTUHORO_REPEATED_ID = 9,         /* the id of an earlier update of the batch, or of an earlier rebuild row */
@@ -47,7 +48,8 @@ enum wentuhoro_refusal {
     WENTUHORO_TOO_MANY = 15,           /* over 256 updates */
     WENTUHORO_REPEATED_LOCATION = 16,  /* a rebuild row has an earlier row's location */
     WENTUHORO_NOTHING_TO_CUT = 17,     /* a cut reported where the test says keep */
-    WENTUHORO_GAP_NOT_ZERO = 18        /* bytes between object and frame are not zero */
+    WENTUHORO_GAP_NOT_ZERO = 18,       /* bytes between object and frame are not zero */
+    WENTUHORO_WRONG_BLOCK = 19         /* a snapshot's block has a wrong number, count, padding or row order */
 };
 
 /* 0 for a status that grants, else one of the numbers above. */
@@ -64,12 +66,34 @@ static inline uint64_t wentuhoro_refusal_index(uint64_t status) { return status 
 #define WENTUHORO_MOST_UPDATES 256
 #define WENTUHORO_COOKIE_BYTES 64
 
-/* The six tables: id_marks and locations have one entry an id, slot_marks and owners one a slot, slab after slab. */
+/* The seven tables: id_marks and locations have one entry an id, slot_marks and owners one a slot, slab after slab; carried has one an id,
+ * then one for each update that a batch may have. */
 #define WENTUHORO_ALLOCATORS 79 /* the ids', then each slab's */
 #define WENTUHORO_BATCH_WORDS 513
 #define WENTUHORO_TALLY_WORDS 473
+#define WENTUHORO_CARRIED_WIDTH 8 /* bytes of an entry of carried */
+#define WENTUHORO_CARRIED_ROWS(ids) ((ids) + WENTUHORO_MOST_UPDATES)
 
 static inline size_t wentuhoro_all_slots(size_t slots) { return WENTUHORO_SLABS * slots; }
+
+/* What an object's row carries beside its location: the store keeps it and never looks at it. This is how an entry is laid out, so a list of
+ * these is lent as it stands. */
+struct wentuhoro_carried {
+    uint64_t collection;
+};
+
+typedef char wentuhoro_carried_is_laid_out[sizeof(struct wentuhoro_carried) == WENTUHORO_CARRIED_WIDTH ? 1 : -1];
+
+#if defined(__BYTE_ORDER__) && __BYTE_ORDER__ != __ORDER_LITTLE_ENDIAN__
+#error "entries of carried are little-endian, and so are the machines that libexports.a is made for"
+#endif
+
+/* So many rows as the bytes that a call is lent, and how many these are. */
+static inline const uint8_t *wentuhoro_carried_bytes(const struct wentuhoro_carried *rows) { return (const uint8_t *)rows; }
+
+static inline uint8_t *wentuhoro_carried_bytes_mut(struct wentuhoro_carried *rows) { return (uint8_t *)rows; }
+
+static inline size_t wentuhoro_carried_len(size_t rows) { return WENTUHORO_CARRIED_WIDTH * rows; }
 
 /* The bytes of a slot of this slab; 0 where there is no such slab. */
 static inline uint64_t wentuhoro_slab_size(size_t slab) {
@@ -120,44 +144,47 @@ uint64_t wentuhoro_unpack(size_t slots, uint64_t location, uint64_t *address, si
  * Refuses: 1, 14. */
 uint64_t wentuhoro_fragmentation_cutoff(size_t live, size_t tip, float ratio, uint64_t *cutoff, size_t cutoff_len);
 
-/* ---- The store. Every call takes the capacities and those of the six tables that it uses. */
+/* ---- The store. Every call takes the capacities and those of the seven tables that it uses. */
 
-/* A store that holds nothing; writes every word of the six tables. Refuses: 1. */
+/* A store that holds nothing; writes every word of the seven tables. Refuses: 1. */
 uint64_t wentuhoro_fresh(size_t ids, size_t slots, uint8_t *id_marks, size_t id_marks_len, uint64_t *locations, size_t locations_len,
                          uint8_t *slot_marks, size_t slot_marks_len, uint64_t *owners, size_t owners_len, uint64_t *batch,
-                         size_t batch_len, uint64_t *tallies, size_t tallies_len);
+                         size_t batch_len, uint64_t *tallies, size_t tallies_len, uint8_t *carried, size_t carried_len);
 
-/* A store that holds the rows' ids and slots and nothing else, rows in any order; writes every word of the six tables.
- * Refuses: 1, then for each row 8 (range only), 9, 3, 16. */
+/* A store that holds the rows' ids and slots, with what they carry, and nothing else, rows in any order; writes every word of the seven
+ * tables. Refuses: 1, then for each row 8 (range only), 9, 3, 16. */
 uint64_t wentuhoro_rebuild(size_t ids, size_t slots, uint8_t *id_marks, size_t id_marks_len, uint64_t *locations, size_t locations_len,
                            uint8_t *slot_marks, size_t slot_marks_len, uint64_t *owners, size_t owners_len, uint64_t *batch,
-                           size_t batch_len, uint64_t *tallies, size_t tallies_len, const uint64_t *row_ids, size_t row_ids_len,
-                           const uint64_t *row_locations, size_t row_locations_len);
+                           size_t batch_len, uint64_t *tallies, size_t tallies_len, uint8_t *carried, size_t carried_len,
+                           const uint64_t *row_ids, size_t row_ids_len, const uint64_t *row_locations, size_t row_locations_len,
+                           const uint8_t *row_carried, size_t row_carried_len);
 
 /* One value: the smallest free id above 0, held from now on. Writes id_marks and tallies. Refuses: 1, 11, 10. */
 uint64_t wentuhoro_new_id(size_t ids, size_t slots, uint8_t *id_marks, size_t id_marks_len, const uint64_t *batch, size_t batch_len,
                           uint64_t *tallies, size_t tallies_len, uint64_t *id, size_t id_len);
 
-/* One value: the packed location of an object. Refuses: 1, 8, 13. */
+/* One value: the packed location of an object; and what its row carries, in a slice of one entry. Refuses: 1, 8, 13. */
 uint64_t wentuhoro_lookup(size_t ids, size_t slots, const uint8_t *id_marks, size_t id_marks_len, const uint64_t *locations,
                           size_t locations_len, const uint8_t *slot_marks, size_t slot_marks_len, const uint64_t *owners,
-                          size_t owners_len, const uint64_t *tallies, size_t tallies_len, uint64_t id, uint64_t *location,
-                          size_t location_len);
+                          size_t owners_len, const uint64_t *tallies, size_t tallies_len, const uint8_t *carried, size_t carried_len,
+                          uint64_t id, uint64_t *location, size_t location_len, uint8_t *row, size_t row_len);
 
 /* Takes the smallest free slot for each Store of a batch, in list order, and keeps the batch. Update i stores an object of lengths[i]
- * bytes as update_ids[i] where stores[i], else it frees that id. All four lists have one row an update; placed gets the packed
- * locations, 0 for a Free. Writes slot_marks, batch, tallies and placed.
+ * bytes as update_ids[i] where stores[i], whose row carries entry i of update_carried, else it frees that id. All five lists have one row an
+ * update; placed gets the packed locations, 0 for a Free. Writes slot_marks, batch, tallies, carried and placed.
  * Refuses: 1, 11, 15, then for each update 8, 9, 2, 13, then 10 with the lowest slab that has too few free slots. */
 uint64_t wentuhoro_offer(size_t ids, size_t slots, const uint8_t *id_marks, size_t id_marks_len, const uint64_t *locations,
                          size_t locations_len, uint8_t *slot_marks, size_t slot_marks_len, const uint64_t *owners, size_t owners_len,
-                         uint64_t *batch, size_t batch_len, uint64_t *tallies, size_t tallies_len, const uint64_t *update_ids,
-                         size_t update_ids_len, const bool *stores, size_t stores_len, const uint64_t *lengths, size_t lengths_len,
+                         uint64_t *batch, size_t batch_len, uint64_t *tallies, size_t tallies_len, uint8_t *carried, size_t carried_len,
+                         const uint64_t *update_ids, size_t update_ids_len, const bool *stores, size_t stores_len,
+                         const uint64_t *lengths, size_t lengths_len, const uint8_t *update_carried, size_t update_carried_len,
                          uint64_t *placed, size_t placed_len);
 
-/* The open batch takes effect. What falls free by it is pending until a release. Writes the six tables. Refuses: 1, 12, 13. */
+/* The open batch takes effect. What falls free by it is pending until a release; a freed id's row carries zeros. Writes the seven tables.
+ * Refuses: 1, 12, 13. */
 uint64_t wentuhoro_commit(size_t ids, size_t slots, uint8_t *id_marks, size_t id_marks_len, uint64_t *locations, size_t locations_len,
                           uint8_t *slot_marks, size_t slot_marks_len, uint64_t *owners, size_t owners_len, uint64_t *batch,
-                          size_t batch_len, uint64_t *tallies, size_t tallies_len);
+                          size_t batch_len, uint64_t *tallies, size_t tallies_len, uint8_t *carried, size_t carried_len);
 
 /* The open batch is dropped, and the slots that it took are free again. Writes slot_marks, batch and tallies. Refuses: 1, 12, 13. */
 uint64_t wentuhoro_abandon(size_t ids, size_t slots, uint8_t *slot_marks, size_t slot_marks_len, uint64_t *batch, size_t batch_len,
@@ -195,10 +222,86 @@ uint64_t wentuhoro_truncation(size_t ids, size_t slots, const uint8_t *slot_mark
 uint64_t wentuhoro_cut_done(size_t ids, size_t slots, const uint8_t *slot_marks, size_t slot_marks_len, const uint64_t *batch,
                             size_t batch_len, uint64_t *tallies, size_t tallies_len, uint64_t slab, uint64_t t);
 
+/* ---- Snapshots: the live rows of a store as bytes, which another machine reads and rebuilds from
+ *
+ * A file is blocks of 512 bytes, each with its own check. A block, little-endian: its number from 0 on (4 bytes), how many rows it has
+ * (2), version 1 (2), 20 rows of id, collection and location (8 each), zeros up to byte 508, and as in the cookie the check of those 508
+ * bytes (4). Rows ascend by id. Only the last block may have fewer than 20, zeros in place of the others, and none where it is the only
+ * one. A file cut at a block's end is the snapshot of fewer rows, and no call can tell: keep its length beside it. */
+
+#define WENTUHORO_SNAPSHOT_BLOCK 512
+#define WENTUHORO_SNAPSHOT_BLOCK_ROWS 20
+
+/* The rows that the lists lent to wentuhoro_snapshot_read have to have for a file of so many bytes, at least. */
+static inline size_t wentuhoro_snapshot_most_rows(size_t file_len) {
+    return file_len / WENTUHORO_SNAPSHOT_BLOCK * WENTUHORO_SNAPSHOT_BLOCK_ROWS;
+}
+
+/* One value: the bytes that a snapshot of the store takes, 512 for each 20 objects or part of them, and never less than 512.
+ * Refuses: 1, 11. */
+uint64_t wentuhoro_snapshot_length(size_t ids, size_t slots, const uint8_t *id_marks, size_t id_marks_len, const uint64_t *locations,
+                                   size_t locations_len, const uint64_t *batch, size_t batch_len, const uint64_t *tallies,
+                                   size_t tallies_len, uint64_t *length, size_t length_len);
+
+/* Writes the snapshot into a file of exactly that length: each id above 0 that is held and has a location, with what its row carries.
+ * Refuses: 1 (a file of another length too), 11, then 13 with the row. */
+uint64_t wentuhoro_snapshot_write(size_t ids, size_t slots, const uint8_t *id_marks, size_t id_marks_len, const uint64_t *locations,
+                                  size_t locations_len, const uint8_t *slot_marks, size_t slot_marks_len, const uint64_t *owners,
+                                  size_t owners_len, const uint64_t *batch, size_t batch_len, const uint64_t *tallies,
+                                  size_t tallies_len, const uint8_t *carried, size_t carried_len, uint8_t *file, size_t file_len);
+
+/* The row at a position: a block, from 0 on, and a row in it. Six values: 1, id, collection, location, and the next position's block and
+ * row; or six zeros for the end. The first position is 0, 0; one that no call has given is judged like any other. Each call judges the
+ * whole block. Refuses, with the block: 1 (no whole number of blocks, or a position outside the file), 4, 6, 19, then 1 for a row that the
+ * block has not. */
+uint64_t wentuhoro_snapshot_step(const uint8_t *file, size_t file_len, size_t block, size_t row, uint64_t *values, size_t values_len);
+
+/* The whole file, each block judged once: rows go into the first rows of three lists, which all have as many, 20 a block or more. One value:
+ * how many rows. Ids and locations are as the file has them; a rebuild judges them. Refuses: 1, then for each block 4, 6, 19. */
+uint64_t wentuhoro_snapshot_read(const uint8_t *file, size_t file_len, uint64_t *row_ids, size_t row_ids_len, uint64_t *row_locations,
+                                 size_t row_locations_len, uint8_t *row_carried, size_t row_carried_len, uint64_t *rows,
+                                 size_t rows_len);
+
+/* wentuhoro_snapshot_read into three lists of so many rows. */
+static inline uint64_t wentuhoro_snapshot_read_rows(const uint8_t *file, size_t file_len, size_t most_rows, uint64_t *row_ids,
+                                                    uint64_t *row_locations, struct wentuhoro_carried *row_carried, uint64_t *rows) {
+    return wentuhoro_snapshot_read(file, file_len, row_ids, most_rows, row_locations, most_rows, wentuhoro_carried_bytes_mut(row_carried),
+                                   wentuhoro_carried_len(most_rows), rows, 1);
+}
+
+/* Where the next row is; {0, 0} before the first. */
+struct wentuhoro_snapshot_position {
+    size_t block;
+    size_t row;
+};
+
+struct wentuhoro_snapshot_row {
+    uint64_t id;
+    uint64_t location;
+    struct wentuhoro_carried carried;
+};
+
+/* wentuhoro_snapshot_step from a position, which moves on. At the end, and on a refusal, found is false, and row and position are as they
+ * were. */
+static inline uint64_t wentuhoro_snapshot_next(const uint8_t *file, size_t file_len, struct wentuhoro_snapshot_position *position,
+                                               struct wentuhoro_snapshot_row *row, bool *found) {
+    uint64_t values[6];
+    uint64_t status = wentuhoro_snapshot_step(file, file_len, position->block, position->row, values, 6);
+    *found = status == 0 && values[0] == 1;
+    if (*found) {
+        row->id = values[1];
+        row->carried.collection = values[2];
+        row->location = values[3];
+        position->block = (size_t)values[4];
+        position->row = (size_t)values[5];
+    }
+    return status;
+}
+
 /* ---- One store as one thing */
 
-/* The caller owns the memory: ids, ids, 78 * slots, 78 * slots, 513 and 473 entries. What they hold before the first fresh or rebuild
- * does not matter. */
+/* The caller owns the memory: ids, ids, 78 * slots, 78 * slots, 513, 473 and ids + 256 entries. What they hold before the first fresh or
+ * rebuild does not matter. */
 struct wentuhoro_store {
     size_t ids;
     size_t slots;
@@ -208,20 +311,27 @@ struct wentuhoro_store {
     uint64_t *owners;
     uint64_t *batch;
     uint64_t *tallies;
+    struct wentuhoro_carried *carried;
 };
+
+static inline size_t wentuhoro_store_carried_len(const struct wentuhoro_store *s) {
+    return wentuhoro_carried_len(WENTUHORO_CARRIED_ROWS(s->ids));
+}
 
 /* Each function below is the call of that name on the store's tables, with the refusals given there. */
 
 static inline uint64_t wentuhoro_store_fresh(struct wentuhoro_store *s) {
     return wentuhoro_fresh(s->ids, s->slots, s->id_marks, s->ids, s->locations, s->ids, s->slot_marks, wentuhoro_all_slots(s->slots),
-                           s->owners, wentuhoro_all_slots(s->slots), s->batch, WENTUHORO_BATCH_WORDS, s->tallies, WENTUHORO_TALLY_WORDS);
+                           s->owners, wentuhoro_all_slots(s->slots), s->batch, WENTUHORO_BATCH_WORDS, s->tallies, WENTUHORO_TALLY_WORDS,
+                           wentuhoro_carried_bytes_mut(s->carried), wentuhoro_store_carried_len(s));
 }
 
 static inline uint64_t wentuhoro_store_rebuild(struct wentuhoro_store *s, size_t rows, const uint64_t *row_ids,
-                                               const uint64_t *row_locations) {
+                                               const uint64_t *row_locations, const struct wentuhoro_carried *row_carried) {
     return wentuhoro_rebuild(s->ids, s->slots, s->id_marks, s->ids, s->locations, s->ids, s->slot_marks, wentuhoro_all_slots(s->slots),
                              s->owners, wentuhoro_all_slots(s->slots), s->batch, WENTUHORO_BATCH_WORDS, s->tallies,
-                             WENTUHORO_TALLY_WORDS, row_ids, rows, row_locations, rows);
+                             WENTUHORO_TALLY_WORDS, wentuhoro_carried_bytes_mut(s->carried), wentuhoro_store_carried_len(s), row_ids, rows,
+                             row_locations, rows, wentuhoro_carried_bytes(row_carried), wentuhoro_carried_len(rows));
 }
 
 static inline uint64_t wentuhoro_store_new_id(struct wentuhoro_store *s, uint64_t *id) {
@@ -229,21 +339,26 @@ static inline uint64_t wentuhoro_store_new_id(struct wentuhoro_store *s, uint64_
                             1);
 }
 
-static inline uint64_t wentuhoro_store_lookup(const struct wentuhoro_store *s, uint64_t id, uint64_t *location) {
+static inline uint64_t wentuhoro_store_lookup(const struct wentuhoro_store *s, uint64_t id, uint64_t *location,
+                                              struct wentuhoro_carried *carried) {
     return wentuhoro_lookup(s->ids, s->slots, s->id_marks, s->ids, s->locations, s->ids, s->slot_marks, wentuhoro_all_slots(s->slots),
-                            s->owners, wentuhoro_all_slots(s->slots), s->tallies, WENTUHORO_TALLY_WORDS, id, location, 1);
+                            s->owners, wentuhoro_all_slots(s->slots), s->tallies, WENTUHORO_TALLY_WORDS,
+                            wentuhoro_carried_bytes(s->carried), wentuhoro_store_carried_len(s), id, location, 1,
+                            wentuhoro_carried_bytes_mut(carried), wentuhoro_carried_len(1));
 }
 
 static inline uint64_t wentuhoro_store_offer(struct wentuhoro_store *s, size_t updates, const uint64_t *update_ids, const bool *stores,
-                                             const uint64_t *lengths, uint64_t *placed) {
+                                             const uint64_t *lengths, const struct wentuhoro_carried *update_carried, uint64_t *placed) {
     return wentuhoro_offer(s->ids, s->slots, s->id_marks, s->ids, s->locations, s->ids, s->slot_marks, wentuhoro_all_slots(s->slots),
                            s->owners, wentuhoro_all_slots(s->slots), s->batch, WENTUHORO_BATCH_WORDS, s->tallies, WENTUHORO_TALLY_WORDS,
-                           update_ids, updates, stores, updates, lengths, updates, placed, updates);
+                           wentuhoro_carried_bytes_mut(s->carried), wentuhoro_store_carried_len(s), update_ids, updates, stores, updates,
+                           lengths, updates, wentuhoro_carried_bytes(update_carried), wentuhoro_carried_len(updates), placed, updates);
 }
 
 static inline uint64_t wentuhoro_store_commit(struct wentuhoro_store *s) {
     return wentuhoro_commit(s->ids, s->slots, s->id_marks, s->ids, s->locations, s->ids, s->slot_marks, wentuhoro_all_slots(s->slots),
-                            s->owners, wentuhoro_all_slots(s->slots), s->batch, WENTUHORO_BATCH_WORDS, s->tallies, WENTUHORO_TALLY_WORDS);
+                            s->owners, wentuhoro_all_slots(s->slots), s->batch, WENTUHORO_BATCH_WORDS, s->tallies, WENTUHORO_TALLY_WORDS,
+                            wentuhoro_carried_bytes_mut(s->carried), wentuhoro_store_carried_len(s));
 }
 
 static inline uint64_t wentuhoro_store_abandon(struct wentuhoro_store *s) {
@@ -282,6 +397,18 @@ static inline uint64_t wentuhoro_store_truncation(struct wentuhoro_store *s, uin
 static inline uint64_t wentuhoro_store_cut_done(struct wentuhoro_store *s, uint64_t slab, uint64_t t) {
     return wentuhoro_cut_done(s->ids, s->slots, s->slot_marks, wentuhoro_all_slots(s->slots), s->batch, WENTUHORO_BATCH_WORDS, s->tallies,
                               WENTUHORO_TALLY_WORDS, slab, t);
+}
+
+static inline uint64_t wentuhoro_store_snapshot_length(const struct wentuhoro_store *s, uint64_t *length) {
+    return wentuhoro_snapshot_length(s->ids, s->slots, s->id_marks, s->ids, s->locations, s->ids, s->batch, WENTUHORO_BATCH_WORDS,
+                                     s->tallies, WENTUHORO_TALLY_WORDS, length, 1);
+}
+
+static inline uint64_t wentuhoro_store_snapshot_write(const struct wentuhoro_store *s, uint8_t *file, size_t file_len) {
+    return wentuhoro_snapshot_write(s->ids, s->slots, s->id_marks, s->ids, s->locations, s->ids, s->slot_marks,
+                                    wentuhoro_all_slots(s->slots), s->owners, wentuhoro_all_slots(s->slots), s->batch,
+                                    WENTUHORO_BATCH_WORDS, s->tallies, WENTUHORO_TALLY_WORDS, wentuhoro_carried_bytes(s->carried),
+                                    wentuhoro_store_carried_len(s), file, file_len);
 }
 
 #ifdef __cplusplus

@@ -1,4 +1,4 @@
-/* A night at the kiosk: store eight objects, look one up, free five, release, list what to move.
+/* A night at the kiosk: store eight objects of one collection, look one up, free five, release, list what to move.
  *
  * It prints document 01's whole run. bindings/c/run builds it and compares. */
 #include <inttypes.h>
@@ -39,32 +39,37 @@ static void write_and_read(void) {
 int main(void) {
     static uint8_t id_marks[IDS], slot_marks[WENTUHORO_SLABS * SLOTS];
     static uint64_t locations[IDS], owners[WENTUHORO_SLABS * SLOTS], batch[WENTUHORO_BATCH_WORDS], tallies[WENTUHORO_TALLY_WORDS];
-    struct wentuhoro_store store = {IDS, SLOTS, id_marks, locations, slot_marks, owners, batch, tallies};
+    static struct wentuhoro_carried rows[WENTUHORO_CARRIED_ROWS(IDS)];
+    struct wentuhoro_store store = {IDS, SLOTS, id_marks, locations, slot_marks, owners, batch, tallies, rows};
     write_and_read();
 
     granted("fresh", wentuhoro_store_fresh(&store));
     uint64_t ids[OBJECTS], lengths[OBJECTS], placed[OBJECTS];
     bool stores[OBJECTS];
+    struct wentuhoro_carried carried[OBJECTS];
     for (size_t i = 0; i < OBJECTS; i++) {
         granted("new_id", wentuhoro_store_new_id(&store, &ids[i]));
         stores[i] = true;
         lengths[i] = 3;
+        carried[i].collection = 7;
     }
-    granted("offer", wentuhoro_store_offer(&store, OBJECTS, ids, stores, lengths, placed));
+    granted("offer", wentuhoro_store_offer(&store, OBJECTS, ids, stores, lengths, carried, placed));
     /* Here a program writes its slots. Where a write fails it calls wentuhoro_store_abandon, and the batch has left no trace. */
     granted("commit", wentuhoro_store_commit(&store));
 
     uint64_t location;
-    granted("lookup", wentuhoro_store_lookup(&store, 6, &location));
+    struct wentuhoro_carried found;
+    granted("lookup", wentuhoro_store_lookup(&store, 6, &location, &found));
     expected(location == placed[5], "object 6 lies where the offer placed it");
+    expected(found.collection == 7, "object 6 is of collection 7");
 
     const uint64_t freed[] = {1, 2, 3, 5, 7};
     const bool none[5] = {false, false, false, false, false};
     const uint64_t zeros[5] = {0, 0, 0, 0, 0};
-    granted("offer", wentuhoro_store_offer(&store, 5, freed, none, zeros, placed));
+    granted("offer", wentuhoro_store_offer(&store, 5, freed, none, zeros, carried, placed));
     granted("commit", wentuhoro_store_commit(&store));
     granted("release", wentuhoro_store_release(&store));
-    expected(wentuhoro_refusal_number(wentuhoro_store_lookup(&store, 1, &location)) == WENTUHORO_NO_SUCH_ID, "object 1 is gone");
+    expected(wentuhoro_refusal_number(wentuhoro_store_lookup(&store, 1, &location, &found)) == WENTUHORO_NO_SUCH_ID, "object 1 is gone");
 
     uint64_t moved[IDS - 1], from[IDS - 1], count, address[3];
     granted("defrag", wentuhoro_store_defrag(&store, 0.75f, moved, from, &count));

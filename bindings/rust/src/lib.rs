@@ -11,33 +11,42 @@
 //! let ids: Vec<u64> = (0..8).map(|_| store.allocate_object_id()).collect::<Result<_, _>>()?;
 //!
 //! // Slots are taken in list order. The caller writes them, then commits; or abandons, and the batch has left no trace.
-//! let batch: Vec<Update> = ids.iter().map(|&id| Update::Store { id, length: 3 }).collect();
+//! let batch: Vec<Update> = ids.iter().map(|&id| Update::store(id, 3)).collect();
 //! let placed = store.offer(&batch)?;
 //! store.commit()?;
 //! assert_eq!(store.get_location_for_object(6)?, placed[5].unwrap());
 //!
 //! // What is freed is pending until a release, so that a reader's slot is not overwritten under it.
-//! store.offer(&[1, 2, 3, 5, 7].map(|id| Update::Free { id }))?;
+//! store.offer(&[1, 2, 3, 5, 7].map(Update::free))?;
 //! store.commit()?;
 //! store.release()?;
 //!
 //! let moved: Vec<(u64, usize, usize)> =
 //!     store.objects_to_defrag(0.75)?.iter().map(|(id, at)| (*id, at.slab(), at.slot())).collect();
 //! assert_eq!(moved, [(6, 0, 5), (8, 0, 7)]);
+//!
+//! // The live rows as bytes; a store opened from them on another machine places as this one does.
+//! let bytes = store.snapshot()?;
+//! let mut laptop = Store::from_snapshot(9, 8, &bytes)?;
+//! assert_eq!(laptop.allocate_object_id()?, store.allocate_object_id()?);
 //! # Ok::<(), wentuhoro::Refusal>(())
 //! ```
 //!
-//! Beside the store: [`slab_for_size`] and [`SLAB_SIZES`], [`Slab`] for an object in its slot, [`crc32`], [`PersistentSettings`] for the
-//! settings cookie, [`SlabAddress`] for a slab and a slot, [`fragmentation_cutoff`]. [`raw`] has the exported calls as they are.
+//! Beside the store: [`snapshot`] for its live rows as bytes, [`slab_for_size`] and [`SLAB_SIZES`], [`Slab`] for an object in its slot,
+//! [`crc32`], [`PersistentSettings`] for the settings cookie, [`SlabAddress`] for a slab and a slot, [`fragmentation_cutoff`]. [`raw`] has the
+//! exported calls as they are.
 mod address;
+mod carried;
 pub mod raw;
 mod refusal;
 mod settings;
 mod slab;
+pub mod snapshot;
 mod store;
 
 pub use address::SlabAddress;
+pub use carried::Carried;
 pub use refusal::{Refusal, RefusalKind};
 pub use settings::PersistentSettings;
 pub use slab::{crc32, crc32_update, fragmentation_cutoff, slab_for_size, Slab, SLAB_SIZES};
-pub use store::{AllocatorStats, Cut, Store, Update};
+pub use store::{AllocatorStats, Cut, Found, Row, Store, Update};

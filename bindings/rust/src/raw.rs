@@ -33,6 +33,8 @@ extern "C" {
         batch_len: usize,
         tallies: *mut u64,
         tallies_len: usize,
+        carried: *mut u8,
+        carried_len: usize,
     ) -> u64;
     pub fn wentuhoro_rebuild(
         ids: usize,
@@ -49,10 +51,14 @@ extern "C" {
         batch_len: usize,
         tallies: *mut u64,
         tallies_len: usize,
+        carried: *mut u8,
+        carried_len: usize,
         row_ids: *const u64,
         row_ids_len: usize,
         row_locations: *const u64,
         row_locations_len: usize,
+        row_carried: *const u8,
+        row_carried_len: usize,
     ) -> u64;
     pub fn wentuhoro_new_id(
         ids: usize,
@@ -79,9 +85,13 @@ extern "C" {
         owners_len: usize,
         tallies: *const u64,
         tallies_len: usize,
+        carried: *const u8,
+        carried_len: usize,
         id: u64,
         location: *mut u64,
         location_len: usize,
+        row: *mut u8,
+        row_len: usize,
     ) -> u64;
     /// The bytes of `stores` are 0 or 1.
     pub fn wentuhoro_offer(
@@ -99,12 +109,16 @@ extern "C" {
         batch_len: usize,
         tallies: *mut u64,
         tallies_len: usize,
+        carried: *mut u8,
+        carried_len: usize,
         update_ids: *const u64,
         update_ids_len: usize,
         stores: *const bool,
         stores_len: usize,
         lengths: *const u64,
         lengths_len: usize,
+        update_carried: *const u8,
+        update_carried_len: usize,
         placed: *mut u64,
         placed_len: usize,
     ) -> u64;
@@ -123,6 +137,8 @@ extern "C" {
         batch_len: usize,
         tallies: *mut u64,
         tallies_len: usize,
+        carried: *mut u8,
+        carried_len: usize,
     ) -> u64;
     pub fn wentuhoro_abandon(
         ids: usize,
@@ -203,5 +219,53 @@ extern "C" {
         tallies_len: usize,
         slab: u64,
         t: u64,
+    ) -> u64;
+
+    pub fn wentuhoro_snapshot_length(
+        ids: usize,
+        slots: usize,
+        id_marks: *const u8,
+        id_marks_len: usize,
+        locations: *const u64,
+        locations_len: usize,
+        batch: *const u64,
+        batch_len: usize,
+        tallies: *const u64,
+        tallies_len: usize,
+        length: *mut u64,
+        length_len: usize,
+    ) -> u64;
+    pub fn wentuhoro_snapshot_write(
+        ids: usize,
+        slots: usize,
+        id_marks: *const u8,
+        id_marks_len: usize,
+        locations: *const u64,
+        locations_len: usize,
+        slot_marks: *const u8,
+        slot_marks_len: usize,
+        owners: *const u64,
+        owners_len: usize,
+        batch: *const u64,
+        batch_len: usize,
+        tallies: *const u64,
+        tallies_len: usize,
+        carried: *const u8,
+        carried_len: usize,
+        file: *mut u8,
+        file_len: usize,
+    ) -> u64;
+    pub fn wentuhoro_snapshot_step(file: *const u8, file_len: usize, block: usize, row: usize, values: *mut u64, values_len: usize) -> u64;
+    pub fn wentuhoro_snapshot_read(
+        file: *const u8,
+        file_len: usize,
+        row_ids: *mut u64,
+        row_ids_len: usize,
+        row_locations: *mut u64,
+        row_locations_len: usize,
+        row_carried: *mut u8,
+        row_carried_len: usize,
+        rows: *mut u64,
+        rows_len: usize,
     ) -> u64;
 }

@@ -1,13 +1,13 @@
 use std::fmt;
 
-/// Why a call was refused, and which update, row or slab it speaks of. A refused call has changed nothing.
+/// Why a call was refused, and which update, row, slab or block it speaks of. A refused call has changed nothing.
 ///
 /// ```
 /// use wentuhoro::{RefusalKind, Store, Update};
 ///
 /// let mut store = Store::new(3, 8)?;
 /// let id = store.allocate_object_id()?;
-/// let refusal = store.offer(&[Update::Store { id, length: 3 }, Update::Free { id }]).unwrap_err();
+/// let refusal = store.offer(&[Update::store(id, 3), Update::free(id)]).unwrap_err();
 /// assert_eq!((refusal.kind, refusal.index), (RefusalKind::RepeatedId, 1));
 /// assert_eq!(refusal.kind.number(), 9);
 /// # Ok::<(), wentuhoro::Refusal>(())
@@ -16,7 +16,7 @@ use std::fmt;
 pub struct Refusal {
     pub kind: RefusalKind,
     /// From 0: the update's where the refusal is given per update, the row's where per row, the slab's for a batch that finds too few free
-    /// slots, and 0 elsewhere.
+    /// slots, the block's where a snapshot is read, and 0 elsewhere.
     pub index: usize,
 }
 
@@ -62,7 +62,7 @@ kinds! {
     CheckDiffers = 4,
     /// A stored length, or an object to be written, longer than its slot takes.
     TooLong = 5,
-    /// A cookie version that is not 1.
+    /// A version of a cookie or of a snapshot's block that is not 1.
     UnknownVersion = 6,
     /// The fanout differs.
     FanoutDiffers = 7,
@@ -88,6 +88,8 @@ kinds! {
     NothingToCut = 17,
     /// Bytes between object and frame are not zero.
     GapNotZero = 18,
+    /// A snapshot's block has a wrong number, count, padding or row order.
+    WrongBlock = 19,
 }
 
 impl Refusal {
@@ -120,20 +122,20 @@ mod tests {
         use RefusalKind::*;
         let kinds = [
             WrongShape, TooLarge, OutOfRange, CheckDiffers, TooLong, UnknownVersion, FanoutDiffers, NoSuchId, RepeatedId, NoneFree,
-            BatchOpen, NoBatch, TablesDisagree, RatioOutOfRange, TooMany, RepeatedLocation, NothingToCut, GapNotZero,
+            BatchOpen, NoBatch, TablesDisagree, RatioOutOfRange, TooMany, RepeatedLocation, NothingToCut, GapNotZero, WrongBlock,
         ];
-        assert!(kinds.into_iter().map(RefusalKind::number).eq(1..=18));
+        assert!(kinds.into_iter().map(RefusalKind::number).eq(1..=19));
         assert_eq!(Refusal::unless_granted(0), Ok(()));
         assert_eq!(Refusal::unless_granted(2 * 256 + 9), Err(Refusal { kind: RefusalKind::RepeatedId, index: 2 }));
     }
 
-    /// Whatever number a library answers, it is shown; those from 1 to 18 have a name.
+    /// Whatever number a library answers, it is shown; those from 1 to 19 have a name.
     #[test]
     fn every_number_is_shown() {
         for number in 0..=255u8 {
             let refusal = Refusal::unless_granted(7 * 256 + u64::from(number)).unwrap_err();
             assert_eq!((refusal.kind.number(), refusal.index), (number, 7));
-            assert_eq!(matches!(refusal.kind, RefusalKind::Unnamed(_)), !(1..=18).contains(&number));
+            assert_eq!(matches!(refusal.kind, RefusalKind::Unnamed(_)), !(1..=19).contains(&number));
             let shown = refusal.to_string();
             assert!(shown.starts_with(&format!("refused with {number}")) && shown.ends_with(", index 7"), "{shown}");
         }

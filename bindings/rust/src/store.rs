@@ -1,10 +1,12 @@
-use crate::{raw, Refusal, SlabAddress};
+use crate::snapshot::{self, Lists};
+use crate::{raw, Carried, Refusal, SlabAddress};
 
+const MOST_UPDATES: usize = 256;
 const BATCH_WORDS: usize = 513;
 const TALLY_WORDS: usize = 473;
 const ALLOCATORS: usize = 79;
 
-/// The store: which ids and slots are free, held or pending, and where each object lies.
+/// The store: which ids and slots are free, held or pending, where each object lies, and what its row carries.
 ///
 /// It owns the tables that the library is lent; [`Clone`] copies them. Calls have sled's names where the thing is the same.
 #[derive(Clone, Debug)]
@@ -17,15 +19,32 @@ pub struct Store {
     owners: Box<[u64]>,
     batch: Box<[u64]>,
     tallies: Box<[u64]>,
+    /// A row for each id, then one for each update that a batch may have.
+    carried: Box<[u8]>,
 }
 
 /// One update of a batch.
 #[derive(Clone, Copy, Debug, PartialEq, Eq, Hash)]
 pub enum Update {
-    /// An object of so many bytes takes a slot and becomes this id's.
-    Store { id: u64, length: u64 },
+    /// An object of so many bytes takes a slot and becomes this id's, and the id's row carries this.
+    Store { id: u64, length: u64, carried: Carried },
     /// The id and the slot that it has, if any, are given up.
     Free { id: u64 },
+}
+
+/// An object that is stored. [`Store::live`] gives these, and a [`rebuild`](Store::rebuild) takes them.
+#[derive(Clone, Copy, Debug, PartialEq, Eq, Hash)]
+pub struct Row {
+    pub id: u64,
+    pub location: SlabAddress,
+    pub carried: Carried,
+}
+
+/// What a lookup answers.
+#[derive(Clone, Copy, Debug, PartialEq, Eq, Hash)]
+pub struct Found {
+    pub location: SlabAddress,
+    pub carried: Carried,
 }
 
 /// What was granted and freed since fresh or rebuild: ids, then slots of all slabs.
@@ -49,7 +68,7 @@ pub struct Cut {
 /// Makes a call on the store's tables, each passed as a pointer and a length, then the call's own words.
 macro_rules! lend {
     ($store:ident, $call:ident: $($how:ident $table:ident),* $(; $($word:expr),*)?) => {
-        // The tables are six boxes, so none overlaps another; what is passed beside them is a local's.
+        // The tables are seven boxes, so none overlaps another; what is passed beside them is a local's.
         Refusal::unless_granted(unsafe {
             raw::$call($store.ids, $store.slots, $(pointer!($how $store $table), $store.$table.len(),)* $($($word),*)?)
         })
@@ -78,6 +97,7 @@ impl Store {
             owners: vec![0; all_slots].into(),
             batch: vec![0; BATCH_WORDS].into(),
             tallies,
+            carried: vec![0; (ids + MOST_UPDATES) * Carried::WIDTH].into(),
         };
         store.fresh();
         Ok(store)
@@ -95,11 +115,45 @@ impl Store {
 
     /// Holds nothing from now on. A batch that was open is gone.
     pub fn fresh(&mut self) {
-        lend!(self, wentuhoro_fresh: writes id_marks, writes locations, writes slot_marks, writes owners, writes batch, writes tallies)
-            .expect("the tables have their lengths");
+        lend!(
+            self,
+            wentuhoro_fresh: writes id_marks, writes locations, writes slot_marks, writes owners, writes batch, writes tallies,
+            writes carried
+        )
+        .expect("the tables have their lengths");
+    }
+
+    /// A fresh store that holds the rows of a [`snapshot`](Self::snapshot). Of a store that was at rest when it was written, with nothing pending
+    /// and every id stored, and of the same capacities, this one gives every later answer: ids, slots, refusals, defrag lists and what rows
+    /// carry; counters and truncation excepted, which begin anew. Of any other store it holds the stored objects: ids without one, and what was
+    /// pending, are not in a snapshot and are free here.
+    ///
+    /// Refuses capacities as [`new`](Self::new) does, then bytes as [`snapshot::Rows`] does, with the block's number, then rows as a
+    /// rebuild does, with the row's.
+    ///
+    /// ```
+    /// # use wentuhoro::{Carried, Store, Update};
+    /// # let mut store = Store::new(9, 8)?;
+    /// # let id = store.allocate_object_id()?;
+    /// # store.offer(&[Update::store(id, 100).carrying(Carried::of_collection(7))])?;
+    /// # store.commit()?;
+    /// let bytes = store.snapshot()?;
+    /// let mut opened = Store::from_snapshot(store.ids(), store.slots(), &bytes)?;
+    /// assert_eq!(opened.find(id)?, store.find(id)?);
+    /// assert_eq!(opened.allocate_object_id()?, store.allocate_object_id()?);
+    /// # Ok::<(), wentuhoro::Refusal>(())
+    /// ```
+    pub fn from_snapshot(ids: usize, slots: usize, bytes: &[u8]) -> Result<Store, Refusal> {
+        let mut store = Store::new(ids, slots)?;
+        store.rebuild_from(&snapshot::lists(bytes)?)?;
+        Ok(store)
     }
 
     /// Holds these ids and slots from now on, and nothing else. A batch that was open is gone; counters and high marks are 0.
+    ///
+    /// From the [`live`](Self::live) rows of a store at rest, with no batch open, nothing pending and every id stored, and of the same capacities,
+    /// it gives every later answer as that store does, counters and truncation excepted. Of any other store ids without an object, and what is
+    /// pending, are no rows and become free.
     ///
     /// Refuses with 1, then for each row an id out of range with 8, a repeated one with 9, a slot past the capacity with 3, a repeated
     /// location with 16.
@@ -108,30 +162,81 @@ impl Store {
     /// # use wentuhoro::{Store, Update};
     /// # let mut store = Store::new(9, 8)?;
     /// # let id = store.allocate_object_id()?;
-    /// # store.offer(&[Update::Store { id, length: 100 }])?;
+    /// # store.offer(&[Update::store(id, 100)])?;
     /// # store.commit()?;
-    /// // On another machine: every later id, slot, refusal and defrag list is the same.
+    /// // On another machine, of a store at rest: every later id, slot, refusal and defrag list is the same, and so is what rows carry.
     /// let mut copy = Store::new(store.ids(), store.slots())?;
     /// copy.rebuild(&store.live())?;
     /// assert_eq!(copy.allocate_object_id()?, store.allocate_object_id()?);
     /// # Ok::<(), wentuhoro::Refusal>(())
     /// ```
-    pub fn rebuild(&mut self, rows: &[(u64, SlabAddress)]) -> Result<(), Refusal> {
-        let (ids, locations): (Vec<u64>, Vec<u64>) = rows.iter().map(|(id, at)| (*id, at.packed())).unzip();
+    pub fn rebuild(&mut self, rows: &[Row]) -> Result<(), Refusal> {
+        let (ids, locations) = rows.iter().map(|row| (row.id, row.location.packed())).unzip();
+        self.rebuild_from(&Lists { ids, locations, carried: Carried::packed(rows.iter().map(|row| row.carried)) })
+    }
+
+    fn rebuild_from(&mut self, rows: &Lists) -> Result<(), Refusal> {
         lend!(
             self,
-            wentuhoro_rebuild: writes id_marks, writes locations, writes slot_marks, writes owners, writes batch, writes tallies;
-            ids.as_ptr(),
-            ids.len(),
-            locations.as_ptr(),
-            locations.len()
+            wentuhoro_rebuild: writes id_marks, writes locations, writes slot_marks, writes owners, writes batch, writes tallies,
+            writes carried;
+            rows.ids.as_ptr(),
+            rows.ids.len(),
+            rows.locations.as_ptr(),
+            rows.locations.len(),
+            rows.carried.as_ptr(),
+            rows.carried.len()
         )
     }
 
     /// The rows for a [`rebuild`](Self::rebuild): each id that has a location, in order. A rebuild from them gives every later answer as
     /// if it had not been made, counters and truncation excepted, where no batch is open, nothing is pending and every id is stored.
-    pub fn live(&self) -> Vec<(u64, SlabAddress)> {
-        (1..self.ids as u64).filter_map(|id| Some((id, self.get_location_for_object(id).ok()?))).collect()
+    ///
+    /// ```
+    /// # use wentuhoro::{Carried, Store, Update};
+    /// # let mut store = Store::new(9, 8)?;
+    /// let ids = [store.allocate_object_id()?, store.allocate_object_id()?];
+    /// store.offer(&[Update::store(ids[1], 3).carrying(Carried::of_collection(7))])?;
+    /// store.commit()?;
+    /// // Of the two ids one has an object.
+    /// let rows: Vec<_> = store.live().iter().map(|row| (row.id, row.location.slab(), row.carried.collection)).collect();
+    /// assert_eq!(rows, [(2, 0, 7)]);
+    /// # Ok::<(), wentuhoro::Refusal>(())
+    /// ```
+    pub fn live(&self) -> Vec<Row> {
+        let row = |id, Found { location, carried }| Row { id, location, carried };
+        (1..self.ids as u64).filter_map(|id| Some(row(id, self.find(id).ok()?))).collect()
+    }
+
+    /// The same rows as bytes, to be kept or carried: [`from_snapshot`](Self::from_snapshot) opens a store from them, which answers as this one
+    /// does where nothing is pending and every id is stored. Ids without an object, pending ids and pending slots are not in a snapshot: store
+    /// or free the ones, and [`release`](Self::release) the others, before it is taken. Refuses while a batch is open with 11.
+    ///
+    /// The module [`snapshot`] has the format, 512 bytes for each 20 objects.
+    ///
+    /// ```
+    /// use wentuhoro::{Store, Update};
+    ///
+    /// let mut store = Store::new(99, 99)?;
+    /// let ids = (0..21).map(|_| store.allocate_object_id()).collect::<Result<Vec<_>, _>>()?;
+    /// store.offer(&ids.iter().map(|&id| Update::store(id, 3)).collect::<Vec<_>>())?;
+    /// assert_eq!(store.snapshot().unwrap_err().kind.number(), 11);
+    /// store.commit()?;
+    /// assert_eq!(store.snapshot()?.len(), 1_024);
+    /// # Ok::<(), wentuhoro::Refusal>(())
+    /// ```
+    pub fn snapshot(&self) -> Result<Vec<u8>, Refusal> {
+        let mut length = 0;
+        lend!(self, wentuhoro_snapshot_length: reads id_marks, reads locations, reads batch, reads tallies; &mut length, 1)?;
+        let mut bytes = vec![0; length as usize];
+        lend!(
+            self,
+            wentuhoro_snapshot_write: reads id_marks, reads locations, reads slot_marks, reads owners, reads batch, reads tallies,
+            reads carried;
+            bytes.as_mut_ptr(),
+            bytes.len()
+        )?;
+        Ok(bytes)
     }
 
     /// The smallest free id above 0, held from now on. Refuses while a batch is open with 11, where none is free with 10.
@@ -143,9 +248,36 @@ impl Store {
 
     /// Refuses an id that is not held or has no location with 8.
     pub fn get_location_for_object(&self, id: u64) -> Result<SlabAddress, Refusal> {
-        let mut location = 0;
-        lend!(self, wentuhoro_lookup: reads id_marks, reads locations, reads slot_marks, reads owners, reads tallies; id, &mut location, 1)?;
-        Ok(SlabAddress::of(location).expect("a granted lookup has a location"))
+        Ok(self.find(id)?.location)
+    }
+
+    /// Where an object lies, and what its row carries. Refuses an id that is not held or has no location with 8.
+    ///
+    /// ```
+    /// # use wentuhoro::{Carried, Store, Update};
+    /// # let mut store = Store::new(9, 8)?;
+    /// let id = store.allocate_object_id()?;
+    /// store.offer(&[Update::store(id, 100).carrying(Carried::of_collection(7))])?;
+    /// // A batch takes effect with its commit.
+    /// assert_eq!(store.find(id).unwrap_err().kind.number(), 8);
+    /// store.commit()?;
+    /// let found = store.find(id)?;
+    /// assert_eq!((found.location.slab(), found.location.slot(), found.carried.collection), (3, 0, 7));
+    /// # Ok::<(), wentuhoro::Refusal>(())
+    /// ```
+    pub fn find(&self, id: u64) -> Result<Found, Refusal> {
+        let (mut location, mut row) = (0, [0; Carried::WIDTH]);
+        lend!(
+            self,
+            wentuhoro_lookup: reads id_marks, reads locations, reads slot_marks, reads owners, reads tallies, reads carried;
+            id,
+            &mut location,
+            1,
+            row.as_mut_ptr(),
+            row.len()
+        )?;
+        let location = SlabAddress::of(location).expect("a granted lookup has a location");
+        Ok(Found { location, carried: Carried::unpacked(row) })
     }
 
     /// Opens a batch: takes the smallest free slot for each Store, in list order. The answer has a location for each update, none for a
@@ -158,16 +290,20 @@ impl Store {
         let ids: Vec<u64> = updates.iter().map(|update| update.id()).collect();
         let stores: Vec<bool> = updates.iter().map(|update| matches!(update, Update::Store { .. })).collect();
         let lengths: Vec<u64> = updates.iter().map(|update| update.length()).collect();
+        let carried = Carried::packed(updates.iter().map(|update| update.carried()));
         let mut placed = vec![0; count];
         lend!(
             self,
-            wentuhoro_offer: reads id_marks, reads locations, writes slot_marks, reads owners, writes batch, writes tallies;
+            wentuhoro_offer: reads id_marks, reads locations, writes slot_marks, reads owners, writes batch, writes tallies,
+            writes carried;
             ids.as_ptr(),
             count,
             stores.as_ptr(),
             count,
             lengths.as_ptr(),
             count,
+            carried.as_ptr(),
+            carried.len(),
             placed.as_mut_ptr(),
             count
         )?;
@@ -177,7 +313,11 @@ impl Store {
     /// The open batch takes effect. Ids that it frees, and slots that its objects had before, are pending until a
     /// [`release`](Self::release). Refuses where none is open with 12.
     pub fn commit(&mut self) -> Result<(), Refusal> {
-        lend!(self, wentuhoro_commit: writes id_marks, writes locations, writes slot_marks, writes owners, writes batch, writes tallies)
+        lend!(
+            self,
+            wentuhoro_commit: writes id_marks, writes locations, writes slot_marks, writes owners, writes batch, writes tallies,
+            writes carried
+        )
     }
 
     /// The open batch is dropped, and the slots that it took are free again. Refuses where none is open with 12.
@@ -238,11 +378,11 @@ impl Store {
     /// # use wentuhoro::{Store, Update};
     /// # let mut store = Store::new(200, 200)?;
     /// # let ids: Vec<u64> = (0..100).map(|_| store.allocate_object_id()).collect::<Result<_, _>>()?;
-    /// # store.offer(&ids.iter().map(|&id| Update::Store { id, length: 3 }).collect::<Vec<_>>())?;
+    /// # store.offer(&ids.iter().map(|&id| Update::store(id, 3)).collect::<Vec<_>>())?;
     /// # store.commit()?;
     /// // A hundred objects in slab 0, whose slots have 64 bytes; all but 17 of them go.
     /// assert_eq!(store.truncation(0, 80)?, None);
-    /// store.offer(&ids[17..].iter().map(|&id| Update::Free { id }).collect::<Vec<_>>())?;
+    /// store.offer(&ids[17..].iter().map(|&id| Update::free(id)).collect::<Vec<_>>())?;
     /// store.commit()?;
     /// store.release()?;
     /// let cut = store.truncation(0, 80)?.unwrap();
@@ -267,6 +407,51 @@ impl Store {
 }
 
 impl Update {
+    /// A Store whose row carries the default: collection 0.
+    ///
+    /// ```
+    /// use wentuhoro::{Carried, Update};
+    ///
+    /// assert_eq!(Update::store(1, 3), Update::Store { id: 1, length: 3, carried: Carried::default() });
+    /// ```
+    pub fn store(id: u64, length: u64) -> Update {
+        Update::Store { id, length, carried: Carried::default() }
+    }
+
+    /// A Free: the id and the slot that it has, if any, are given up with the commit.
+    ///
+    /// ```
+    /// use wentuhoro::Update;
+    ///
+    /// assert_eq!([1, 2].map(Update::free), [Update::Free { id: 1 }, Update::Free { id: 2 }]);
+    /// ```
+    pub fn free(id: u64) -> Update {
+        Update::Free { id }
+    }
+
+    /// The same, and the id's row carries this. A Free carries nothing, and stays as it is.
+    ///
+    /// ```
+    /// use wentuhoro::{Carried, Update};
+    ///
+    /// let carried = Carried::of_collection(7);
+    /// assert_eq!(Update::store(1, 3).carrying(carried), Update::Store { id: 1, length: 3, carried });
+    /// assert_eq!(Update::free(1).carrying(carried), Update::Free { id: 1 });
+    /// ```
+    pub fn carrying(self, carried: Carried) -> Update {
+        match self {
+            Update::Store { id, length, .. } => Update::Store { id, length, carried },
+            Update::Free { .. } => self,
+        }
+    }
+
+    /// The id that it stores or frees.
+    ///
+    /// ```
+    /// use wentuhoro::Update;
+    ///
+    /// assert_eq!([Update::store(1, 3), Update::free(2)].map(|update| update.id()), [1, 2]);
+    /// ```
     pub fn id(&self) -> u64 {
         match *self {
             Update::Store { id, .. } | Update::Free { id } => id,
@@ -278,5 +463,41 @@ impl Update {
             Update::Store { length, .. } => length,
             Update::Free { .. } => 0,
         }
+    }
+
+    fn carried(&self) -> Carried {
+        match *self {
+            Update::Store { carried, .. } => carried,
+            Update::Free { .. } => Carried::default(),
+        }
+    }
+}
+
+impl Row {
+    /// A row that carries the default: collection 0.
+    ///
+    /// ```
+    /// use wentuhoro::{Row, SlabAddress};
+    ///
+    /// assert_eq!(Row::new(5, SlabAddress::from_slab_slot(3, 1)?).carried.collection, 0);
+    /// # Ok::<(), wentuhoro::Refusal>(())
+    /// ```
+    pub fn new(id: u64, location: SlabAddress) -> Row {
+        Row { id, location, carried: Carried::default() }
+    }
+
+    /// The same, carrying this.
+    ///
+    /// ```
+    /// use wentuhoro::{Carried, Row, SlabAddress, Store};
+    ///
+    /// let mut store = Store::new(9, 8)?;
+    /// let row = Row::new(5, SlabAddress::from_slab_slot(3, 1)?).carrying(Carried::of_collection(7));
+    /// store.rebuild(&[row])?;
+    /// assert_eq!(store.live(), [row]);
+    /// # Ok::<(), wentuhoro::Refusal>(())
+    /// ```
+    pub fn carrying(self, carried: Carried) -> Row {
+        Row { carried, ..self }
     }
 }

@@ -1,8 +1,8 @@
 //! The store through the crate: what the examples in its documentation leave out.
-use wentuhoro::{AllocatorStats, Cut, RefusalKind, SlabAddress, Store, Update};
+use wentuhoro::{AllocatorStats, Carried, Cut, RefusalKind, Row, SlabAddress, Store, Update};
 
 fn store(id: u64, length: u64) -> Update {
-    Update::Store { id, length }
+    Update::store(id, length)
 }
 
 fn refusal<T: std::fmt::Debug>(answer: Result<T, wentuhoro::Refusal>) -> (RefusalKind, usize) {
@@ -40,26 +40,26 @@ fn batches_are_refused_with_the_updates_index() {
     let mut small = Store::new(4, 1).unwrap();
     let ids: Vec<u64> = (0..3).map(|_| small.allocate_object_id().unwrap()).collect();
     assert_eq!(refusal(small.allocate_object_id()), (RefusalKind::NoneFree, 0));
-    assert_eq!(refusal(small.offer(&[store(1, 3), Update::Free { id: 4 }])), (RefusalKind::NoSuchId, 1));
+    assert_eq!(refusal(small.offer(&[store(1, 3), Update::free(4)])), (RefusalKind::NoSuchId, 1));
     assert_eq!(refusal(small.offer(&[store(1, 3), store(2, 1 << 40)])), (RefusalKind::TooLarge, 1));
     assert_eq!(refusal(small.offer(&[store(1, 3), store(2, 60), store(3, 61)])), (RefusalKind::NoneFree, 1));
-    assert_eq!(refusal(small.offer(&vec![Update::Free { id: 1 }; 257])), (RefusalKind::TooMany, 0));
-    let placed = small.offer(&[store(ids[0], 3), Update::Free { id: ids[1] }]).unwrap();
+    assert_eq!(refusal(small.offer(&vec![Update::free(1); 257])), (RefusalKind::TooMany, 0));
+    let placed = small.offer(&[store(ids[0], 3), Update::free(ids[1])]).unwrap();
     assert_eq!(placed, [Some(SlabAddress::from_slab_slot(0, 0).unwrap()), None]);
 }
 
 #[test]
 fn rows_are_refused_with_the_rows_index_and_change_nothing() {
     let mut rebuilt = Store::new(9, 8).unwrap();
-    let at = |slot| SlabAddress::from_slab_slot(3, slot).unwrap();
-    rebuilt.rebuild(&[(5, at(1)), (2, at(7))]).unwrap();
-    let live = [(2, at(7)), (5, at(1))];
+    let at = |id, slot| Row::new(id, SlabAddress::from_slab_slot(3, slot).unwrap()).carrying(Carried::of_collection(id << 56));
+    rebuilt.rebuild(&[at(5, 1), at(2, 7)]).unwrap();
+    let live = [at(2, 7), at(5, 1)];
     assert_eq!(rebuilt.live(), live);
     for (rows, expected) in [
-        (vec![(1, at(0)), (9, at(1))], (RefusalKind::NoSuchId, 1)),
-        (vec![(1, at(0)), (1, at(1))], (RefusalKind::RepeatedId, 1)),
-        (vec![(1, at(8))], (RefusalKind::OutOfRange, 0)),
-        (vec![(1, at(0)), (2, at(0))], (RefusalKind::RepeatedLocation, 1)),
+        (vec![at(1, 0), at(9, 1)], (RefusalKind::NoSuchId, 1)),
+        (vec![at(1, 0), at(1, 1)], (RefusalKind::RepeatedId, 1)),
+        (vec![at(1, 8)], (RefusalKind::OutOfRange, 0)),
+        (vec![at(1, 0), at(2, 0)], (RefusalKind::RepeatedLocation, 1)),
     ] {
         assert_eq!(refusal(rebuilt.rebuild(&rows)), expected);
         assert_eq!(rebuilt.live(), live);
@@ -71,13 +71,37 @@ fn rows_are_refused_with_the_rows_index_and_change_nothing() {
     assert_eq!((rebuilt.live(), rebuilt.stats()), (vec![], AllocatorStats::default()));
 }
 
+#[test]
+fn a_row_carries_what_the_last_committed_store_said() {
+    let mut kiosk = Store::new(9, 8).unwrap();
+    let id = kiosk.allocate_object_id().unwrap();
+    let in_collection = |collection| [store(id, 3).carrying(Carried::of_collection(collection))];
+    let collection = |kiosk: &Store| kiosk.find(id).map(|found| found.carried.collection);
+    kiosk.offer(&in_collection(u64::MAX)).unwrap();
+    assert_eq!(refusal(collection(&kiosk)), (RefusalKind::NoSuchId, 0));
+    kiosk.commit().unwrap();
+    assert_eq!(collection(&kiosk), Ok(u64::MAX));
+    kiosk.offer(&in_collection(7)).unwrap();
+    assert_eq!(collection(&kiosk), Ok(u64::MAX));
+    kiosk.abandon().unwrap();
+    assert_eq!(collection(&kiosk), Ok(u64::MAX));
+    kiosk.offer(&in_collection(8)).unwrap();
+    kiosk.commit().unwrap();
+    kiosk.release().unwrap();
+    assert_eq!(collection(&kiosk), Ok(8));
+    // Stored anew without a word about it, it carries the default.
+    kiosk.offer(&[store(id, 3)]).unwrap();
+    kiosk.commit().unwrap();
+    assert_eq!(collection(&kiosk), Ok(0));
+}
+
 /// A store of one object in slot `tip - 1` of a slab whose high mark is `high`, a slot that is free again.
 fn once_larger(slab: usize, tip: usize, high: usize) -> Store {
     let mut store = Store::new(3, high + 1).unwrap();
     let at = |slot| SlabAddress::from_slab_slot(slab, slot).unwrap();
-    store.rebuild(&[(1, at(tip - 1)), (2, at(high))]).unwrap();
+    store.rebuild(&[Row::new(1, at(tip - 1)), Row::new(2, at(high))]).unwrap();
     assert_eq!(store.truncation(slab, 86), Ok(None));
-    store.offer(&[Update::Free { id: 2 }]).unwrap();
+    store.offer(&[Update::free(2)]).unwrap();
     store.commit().unwrap();
     store.release().unwrap();
     store
