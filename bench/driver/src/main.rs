@@ -15,6 +15,7 @@ mod leaves;
 mod original;
 mod ours;
 mod picture;
+mod snapshots;
 mod store;
 mod timing;
 
@@ -30,6 +31,7 @@ fn main() {
     let rounds = arguments.first().and_then(|word| word.parse().ok()).unwrap_or(41);
     let mut picture = picture::Picture::default();
     store::run(rounds, &mut picture);
+    snapshots::run(rounds, &mut picture);
     leaves::run(rounds, &mut picture);
     if let Some(path) = arguments.get(1) {
         std::fs::write(path, picture.svg()).expect("the picture is written");

@@ -19,12 +19,16 @@ pub fn frame_read(slot: &[u8]) -> Option<u64> {
     (status == 0).then_some(length[0])
 }
 
+/// The bytes that a row carries.
+pub const CARRIED_WIDTH: usize = 8;
+
 /// The updates of a batch, and room for its locations.
 #[derive(Clone)]
 pub struct Batch {
     pub ids: Vec<u64>,
     pub stores: Vec<bool>,
     pub lengths: Vec<u64>,
+    pub carried: Vec<u8>,
     pub placed: Vec<u64>,
 }
 
@@ -32,7 +36,8 @@ impl Batch {
     pub fn stores(ids: impl IntoIterator<Item = u64>, length: impl Fn(usize) -> u64) -> Batch {
         let ids: Vec<u64> = ids.into_iter().collect();
         let count = ids.len();
-        Batch { ids, stores: vec![true; count], lengths: (0..count).map(length).collect(), placed: vec![0; count] }
+        let carried = ids.iter().flat_map(|id| id.to_le_bytes()).collect();
+        Batch { ids, stores: vec![true; count], lengths: (0..count).map(length).collect(), carried, placed: vec![0; count] }
     }
 
     pub fn frees(ids: impl IntoIterator<Item = u64>) -> Batch {
@@ -50,6 +55,7 @@ pub struct Ours {
     pub owners: Vec<u64>,
     pub batch: Vec<u64>,
     pub tallies: Vec<u64>,
+    pub carried: Vec<u8>,
     pub moved: (Vec<u64>, Vec<u64>),
 }
 
@@ -76,6 +82,7 @@ impl Ours {
             owners: vec![0; 78 * slots],
             batch: vec![0; 513],
             tallies: vec![0; 473],
+            carried: vec![0; (ids + 256) * CARRIED_WIDTH],
             moved: (vec![0; ids - 1], vec![0; ids - 1]),
         };
         store.fresh();
@@ -83,12 +90,12 @@ impl Ours {
     }
 
     pub fn fresh(&mut self) {
-        lend!(self, wentuhoro_fresh: id_marks, locations, slot_marks, owners, batch, tallies);
+        lend!(self, wentuhoro_fresh: id_marks, locations, slot_marks, owners, batch, tallies, carried);
     }
 
-    pub fn rebuild(&mut self, ids: &[u64], locations: &[u64]) {
-        lend!(self, wentuhoro_rebuild: id_marks, locations, slot_marks, owners, batch, tallies;
-            ids.as_ptr(), ids.len(), locations.as_ptr(), locations.len());
+    pub fn rebuild(&mut self, ids: &[u64], locations: &[u64], carried: &[u8]) {
+        lend!(self, wentuhoro_rebuild: id_marks, locations, slot_marks, owners, batch, tallies, carried;
+            ids.as_ptr(), ids.len(), locations.as_ptr(), locations.len(), carried.as_ptr(), carried.len());
     }
 
     pub fn new_id(&mut self) -> u64 {
@@ -98,15 +105,17 @@ impl Ours {
     }
 
     pub fn lookup(&mut self, id: u64) -> u64 {
-        let mut location = 0;
-        lend!(self, wentuhoro_lookup: id_marks, locations, slot_marks, owners, tallies; id, &mut location, 1);
+        let (mut location, mut row) = (0, [0; CARRIED_WIDTH]);
+        lend!(self, wentuhoro_lookup: id_marks, locations, slot_marks, owners, tallies, carried;
+            id, &mut location, 1, row.as_mut_ptr(), row.len());
         location
     }
 
     fn offered(&mut self, batch: &mut Batch) -> u64 {
         let count = batch.ids.len();
-        status!(self, wentuhoro_offer: id_marks, locations, slot_marks, owners, batch, tallies;
-            batch.ids.as_ptr(), count, batch.stores.as_ptr(), count, batch.lengths.as_ptr(), count, batch.placed.as_mut_ptr(), count)
+        status!(self, wentuhoro_offer: id_marks, locations, slot_marks, owners, batch, tallies, carried;
+            batch.ids.as_ptr(), count, batch.stores.as_ptr(), count, batch.lengths.as_ptr(), count,
+            batch.carried.as_ptr(), batch.carried.len(), batch.placed.as_mut_ptr(), count)
     }
 
     pub fn offer(&mut self, batch: &mut Batch) {
@@ -119,7 +128,7 @@ impl Ours {
     }
 
     pub fn commit(&mut self) {
-        lend!(self, wentuhoro_commit: id_marks, locations, slot_marks, owners, batch, tallies);
+        lend!(self, wentuhoro_commit: id_marks, locations, slot_marks, owners, batch, tallies, carried);
     }
 
     pub fn abandon(&mut self) {
@@ -151,6 +160,17 @@ impl Ours {
         count as usize
     }
 
+    pub fn snapshot_length(&mut self) -> usize {
+        let mut length = 0;
+        lend!(self, wentuhoro_snapshot_length: id_marks, locations, batch, tallies; &mut length, 1);
+        length as usize
+    }
+
+    pub fn snapshot_write(&mut self, file: &mut [u8]) {
+        lend!(self, wentuhoro_snapshot_write: id_marks, locations, slot_marks, owners, batch, tallies, carried;
+            file.as_mut_ptr(), file.len());
+    }
+
     pub fn truncation(&mut self, slab: u64) -> [u64; 3] {
         let mut cut = [0; 3];
         lend!(self, wentuhoro_truncation: slot_marks, batch, tallies; slab, 80, cut.as_mut_ptr(), 3);
@@ -160,4 +180,30 @@ impl Ours {
     pub fn cut_done(&mut self, slab: u64) {
         lend!(self, wentuhoro_cut_done: slot_marks, batch, tallies; slab, 80);
     }
+}
+
+/// Lists that a snapshot is read into.
+#[derive(Clone, PartialEq)]
+pub struct Rows {
+    pub ids: Vec<u64>,
+    pub locations: Vec<u64>,
+    pub carried: Vec<u8>,
+}
+
+impl Rows {
+    pub fn new(count: usize) -> Rows {
+        Rows { ids: vec![0; count], locations: vec![0; count], carried: vec![0; count * CARRIED_WIDTH] }
+    }
+}
+
+/// How many rows there are, or a status above 0.
+pub fn snapshot_read(file: &[u8], rows: &mut Rows) -> Result<usize, u64> {
+    let mut count = 0;
+    let status = unsafe {
+        raw::wentuhoro_snapshot_read(
+            file.as_ptr(), file.len(), rows.ids.as_mut_ptr(), rows.ids.len(), rows.locations.as_mut_ptr(), rows.locations.len(),
+            rows.carried.as_mut_ptr(), rows.carried.len(), &mut count, 1,
+        )
+    };
+    if status == 0 { Ok(count as usize) } else { Err(status) }
 }

@@ -3,11 +3,11 @@ use std::hint::black_box;
 
 use crate::id_allocator::probe::set_free_and_tip;
 use crate::original::Original;
-use crate::ours::{Batch, Ours};
+use crate::ours::{Batch, Ours, CARRIED_WIDTH};
 use crate::picture::Picture;
 use crate::timing::{best, Usual};
 
-const CAPACITY: usize = 65_536;
+pub const CAPACITY: usize = 65_536;
 pub const BATCH: usize = 256;
 /// As many objects as leave room for one more batch.
 const FULL: usize = CAPACITY - 1 - BATCH;
@@ -15,24 +15,24 @@ const RATIO: f32 = 0.75;
 /// Cycles before the first that is timed: a store that was just filled has its free slots in one run.
 const BEFORE: u32 = 8;
 
-struct Table<'a> {
+pub struct Table<'a> {
     group: &'a str,
     picture: &'a mut Picture,
 }
 
 impl Table<'_> {
-    fn new<'a>(picture: &'a mut Picture, group: &'a str, unit: &str) -> Table<'a> {
+    pub fn new<'a>(picture: &'a mut Picture, group: &'a str, unit: &str) -> Table<'a> {
         println!("\n### {}{}: {unit}\n\n| | ours | the Rust | the Rust / ours |\n|---|--:|--:|--:|", group[..1].to_uppercase(), &group[1..]);
         Table { group, picture }
     }
 
-    fn row(&mut self, what: &str, ours: f64, rust: f64) {
+    pub fn row(&mut self, what: &str, ours: f64, rust: f64) {
         println!("| {what} | {ours:.1} | {rust:.1} | {:.2} |", rust / ours);
         self.picture.bar(self.group, what, rust / ours);
     }
 
     /// What the Rust has not.
-    fn ours_alone(&mut self, what: &str, ours: f64) {
+    pub fn ours_alone(&mut self, what: &str, ours: f64) {
         println!("| {what} | {ours:.1} | | |");
     }
 }
@@ -237,7 +237,7 @@ fn defrag(rounds: u32, picture: &mut Picture) {
     (0..78).for_each(|slab| set_free_and_tip(&full.rust.mapper.clone_slab_allocator_arc(slab), 0, CAPACITY as u64));
     let half: (Vec<u64>, Vec<u64>) = (0..CAPACITY as u64 / 2).map(|at| (at + 1, (1 << 56) + 2 * at + 1)).unzip();
     let mut half_empty = Both { ours: Ours::new(CAPACITY, CAPACITY), rust: Original::new(&Original::rows(&half.0, &half.1), RATIO) };
-    half_empty.ours.rebuild(&half.0, &half.1);
+    half_empty.ours.rebuild(&half.0, &half.1, &vec![0; half.0.len() * CARRIED_WIDTH]);
     for (what, both) in [("78 full slabs of 65,536", &mut full), ("a slab of 65,536, half empty", &mut half_empty)] {
         let mut pairs = Pairs::new(1);
         let mut rows = 0;
@@ -252,11 +252,12 @@ fn rebuild(rounds: u32, picture: &mut Picture) {
     for (what, slabs) in [("in one slab", 1), ("in 78 slabs", 78)] {
         let ids: Vec<u64> = (1..CAPACITY as u64).collect();
         let locations: Vec<u64> = ids.iter().map(|id| ((id % slabs + 1) << 56) + id / slabs).collect();
+        let carried: Vec<u8> = ids.iter().flat_map(|id| id.to_le_bytes()).collect();
         let rows = Original::rows(&ids, &locations);
         let mut both = Both::new(CAPACITY, CAPACITY);
         let mut pairs = Pairs::new(1);
         for _ in 0..rounds {
-            pairs.0[0].0.of(|| both.ours.rebuild(&ids, &locations));
+            pairs.0[0].0.of(|| both.ours.rebuild(&ids, &locations, &carried));
             let made = pairs.0[0].1.of(|| Original::new(&rows, RATIO));
             both.rust = made;
         }
