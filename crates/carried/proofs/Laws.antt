@@ -11,7 +11,7 @@ use native.Mathlib.Omega.{arith}
 use lib.Dec.{leb, eqb}
 use lib.ListN.{length, getD, set, take, drop, length-append, length-drop, length-replicate}
 use lib.Seq.{length-take-le, take-at, drop-at, getD-set-other}
-use borrow.Author.Tests.{leb-true, eqb-true, le-leb, eq-eqb, ne-eqb}
+use borrow.Author.Tests.{leb-true, eqb-true, le-leb, lt-leb, eq-eqb, ne-eqb}
 use Rattle.list_parts.specs.Parts.{part, putPart}
 use Rattle.list_parts.specs.Lists.{elem}
 use Rattle.list_parts.proofs.Lists.{elem-head, elem-tail, elem-cases, elem-not}
@@ -30,6 +30,10 @@ rowIn-part w t i h = simp (le-leb _ _ h)
 pub putRow-done : (w : ℕ) (t : List ℕ) (i : ℕ) (r : List ℕ) → i * w + w ≤ length t → length r ≡ w → putRow w t i r ≡ putPart w t i r
 unfolding putRow
 putRow-done w t i r h e = simp (le-leb _ _ h, eq-eqb _ _ e)
+
+pub putRow-none : (w : ℕ) (t : List ℕ) (i : ℕ) (r : List ℕ) → length t < i * w + w → putRow w t i r ≡ t
+unfolding putRow
+putRow-none w t i r h = simp (lt-leb _ _ h)
 
 pub putRow-cases : (w : ℕ) (t : List ℕ) (i : ℕ) (r : List ℕ) → ((i * w + w ≤ length t) × (length r ≡ w)) ⊎ (putRow w t i r ≡ t)
 unfolding putRow
@@ -101,6 +105,15 @@ putRows-same w n (i ∷ is) bytes t u k lt lu lb b h =
   where
     one : (k ≢ i → part w t k ≡ part w u k) → part w (putRow w t i (take w bytes)) k ≡ part w (putRow w u i (take w bytes)) k
     one = putRow-same w n t u i (take w bytes) k lt lu (rows-first w (length is) bytes lb .0) (λ _. b)
+
+-- rows from one on that the column does not have
+pub putRows-past : (w k n : ℕ) (bytes t : List ℕ) → length t < k * w + w → putRows w (upFrom k n) bytes t ≡ t
+unfolding putRows upFrom
+putRows-past w k zero bytes t h = refl
+putRows-past w k (suc n) bytes t h =
+    let f = suc-mul k w in
+    ap (putRows w (upFrom (suc k) n) (drop w bytes)) (putRow-none w t k (take w bytes) h)
+    ∙ putRows-past w (suc k) n (drop w bytes) t (omega arith)
 
 -- ---- rowsAt
 

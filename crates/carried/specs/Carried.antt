@@ -1,4 +1,4 @@
--- Request 2026-01: what a row of the store carries beside its location. These are bytes that no call interprets. They stand in one column: a row of so
+-- Requests 2026-01 and 2026-06: what a row of the store carries beside its location; crate keys says its form. The bytes stand in one column: a row of so
 -- many bytes for each id, and then one for each kept update. All but `width` is over any number of bytes. Assumes nothing.
 use mathlib.Core.Bool.{cond, _&&_}
 use mathlib.Core.List.{List, [], _∷_, _++_}
@@ -7,9 +7,9 @@ use lib.Dec.{leb, eqb}
 use lib.ListN.{length, take, drop, replicate}
 use Rattle.list_parts.specs.Parts.{part, putPart}
 
--- how many bytes a row carries: the collection, little-endian
+-- how many bytes a row carries: the collection and the key (crate keys)
 abbrev pub width : ℕ
-width = 8
+width = 80
 
 -- row i; nothing where the column has no such row
 unfoldable pub rowIn : ℕ → List ℕ → ℕ → List ℕ

@@ -1,18 +1,17 @@
-// What a row carries beside its location (request 2026-01): WIDTH bytes that no call interprets. They stand in one column, a row for each id and then one
-// for each kept update.
+// What a row carries beside its location (requests 2026-01 and 2026-06): WIDTH bytes, of which crate keys says the form. They stand in one column, a row
+// for each id and then one for each kept update.
 //
-//     carried::put_rows(carried, caps.ids, offered);     // an offer keeps the rows of its updates
+//     carried::put_row(carried, caps.ids + j, &row);     // an offer keeps the row of its update j
 //     carried::settle(carried, caps.ids + j, id, location);  // a commit gives the row of update j to its id, and clears a freed id's
 //     let row = carried::row(carried, id);               // what a lookup shows
 //
 // Every function takes any column: a row that is not in it reads as nothing and is not written.
 ghost use mathlib.Core.Path.{_≡_};
-ghost use Prim.Native.Nat.{_/_, _-_, min};
 ghost use lib.ListN.{length};
-ghost use Rattle.carried.specs.Carried.{width, putRow, putRows, rowIn, upFrom, keptRow};
+ghost use Rattle.carried.specs.Carried.{width, putRow, rowIn, keptRow};
 
 // How many bytes a row carries. Nothing here depends on more than that it is a number from 1 on.
-pub const WIDTH: usize = 8;
+pub const WIDTH: usize = 80;
 
 // All bytes of one slice over those of another.
 fn copy(to: &mut [u8], from: &[u8])
@@ -38,7 +37,7 @@ pub fn row(column: &[u8], index: usize) -> &[u8]
     &column[start..end]
 }
 
-// Stores a whole row as row `index`. It passes through a local array: LLVM then knows that the two do not overlap, and makes one load and one store of it.
+// Stores a whole row as row `index`. It passes through a local array: LLVM then knows that the two do not overlap, and copies without a loop over bytes.
 pub fn put_row(column: &mut [u8], index: usize, row: &[u8])
     ensures { λ _. ⌜ now (column .exit) ≡ putRow width (now (column .entry)) index (now (row .entry)) ⌝ }
 {
@@ -53,47 +52,6 @@ pub fn put_row(column: &mut [u8], index: usize, row: &[u8])
     let mut held = [0u8; WIDTH];
     copy(&mut held, row);
     copy(&mut column[start..end], &held);
-}
-
-// How many rows are stored: those that are offered, as far as there is room for them from `first` on.
-fn fitting(room: usize, first: usize, offered: usize) -> usize
-    ensures { λ r. ⌜ r ≡ min offered (room - first) ⌝ }
-{
-    if room <= first {
-        return 0;
-    }
-    if offered <= room - first {
-        return offered;
-    }
-    room - first
-}
-
-// Rows that stand one after the other, from row `first` on. They lie so in the column too, and are copied at once.
-pub fn put_rows(column: &mut [u8], first: usize, rows: &[u8])
-    ensures { λ _. ⌜ now (column .exit) ≡ putRows width (upFrom first (length (now (rows .entry)) / width)) (now (rows .entry)) (now (column .entry)) ⌝ }
-{
-    let count = fitting(column.len() / WIDTH, first, rows.len() / WIDTH);
-    if count == 0 {
-        return;
-    }
-    let start = first * WIDTH;
-    let bytes = count * WIDTH;
-    let end = start + bytes;
-    copy(&mut column[start..end], &rows[..bytes]);
-}
-
-// Rows that stand one after the other, each at its own number. A row that is not offered whole is not stored.
-pub fn put_rows_at(column: &mut [u8], ids: &[u64], rows: &[u8])
-    ensures { λ _. ⌜ now (column .exit) ≡ putRows width (now (ids .entry)) (now (rows .entry)) (now (column .entry)) ⌝ }
-{
-    let count = fitting(ids.len(), 0, rows.len() / WIDTH);
-    let mut i = 0;
-    while i < count {
-        let start = i * WIDTH;
-        let end = start + WIDTH;
-        put_row(column, ids[i] as usize, &rows[start..end]);
-        i += 1;
-    }
 }
 
 // Gives row `kept` to row `id`, as the commit of one kept update does; where the update has no location, and so is a Free, zeros.

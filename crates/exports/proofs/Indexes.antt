@@ -1,30 +1,35 @@
 -- A status has room for every refusal of a store: its number is below 256 and its index at most 65,536. Only a rebuild has more rows than
 -- that, and there a refused row comes after rows whose ids are in range and differ: each is one more mark in a table of as many marks as
 -- there are ids. Assumes nothing.
-use mathlib.Core.Path.{_≡_, refl, _∙_}
-use mathlib.Core.Bool.{Bool, true, false, not, cond}
+use mathlib.Core.Path.{_≡_, refl, sym, subst, _∙_}
+use mathlib.Core.Bool.{Bool, true, false, not, _&&_}
 use mathlib.Core.List.{List, [], _∷_}
 use Prim.Native.Nat.{ℕ, zero, suc, _+_, _*_, _<_, _≤_, pred}
 use native.Mathlib.Omega.{arith}
 use lib.Dec.{ltb}
 use lib.ListN.{length, length-replicate, length-set, getD, set, replicate}
 use lib.Seq.{getD-set-other}
-use borrow.Author.Tests.{ltb-true, ltb-false, not-false}
+use borrow.Author.Tests.{ltb-true, ltb-false, eqb-true, not-false}
 use Rattle.refusal.proofs.Tests.{and-true}
 use Rattle.list_parts.specs.Lists.{elem}
 use Rattle.list_parts.proofs.Lists.{elem-not}
+use Rattle.keys.specs.Keys.{longIn, allStored}
 use Rattle.address.specs.Address.{slabs}
 use Rattle.marks.specs.Marks.{isTaken, countIf}
 use Rattle.marks.proofs.LawsCount.{countIf-set, countIf-le}
-use Rattle.model.specs.Store.{Store, Update, Row, Question, lookup, counters, defrag, snapshotLength, snapshot, Call, newId, release, offer, commit, abandon, fresh, rebuild, ask, truncation, report}
+use Rattle.model.specs.Store.{Store, Update, Row, Offer, Rows, Question, lookup, counters, defrag, snapshotLength, snapshot, Call, newId, release, offer, commit, abandon, fresh, rebuild, ask, truncation, report}
 use Rattle.model.specs.Verdict.{Verdict, ok, refuse, _⨾_, test}
 use Rattle.model.specs.Tables.{mostUpdates, mostOpened, inIds, badLocation, kept, pairs}
 use Rattle.model.specs.Batches.{updatesOf, updatesIn, updates, room, commitRows, abandonRows}
 use Rattle.model.specs.Rebuild.{rowsIn, rows}
+use Rattle.model.specs.Tests.{lists, asLong}
+use Rattle.model.specs.Columns.{carriesFor, withOfferedKeys, withRebuiltKeys}
+use Rattle.model.specs.Keyed.{updatesKeyed, rowsKeyed}
 use Rattle.model.specs.Step.{slabRefusal, refusalOf, refusal, answer}
-use Rattle.model.specs.Snapshots.{isStored, thoseFrom, storedIds, snapshotRows}
+use Rattle.model.specs.Snapshots.{isStored, storedIds, snapshotRows}
 use Rattle.model.specs.Questions.{askRefusal}
-use Rattle.model.proofs.Granted.{shape-ok}
+use Rattle.model.proofs.Granted.{shape-ok, lists-ok}
+use Rattle.model.proofs.Keyed.{offered-in-order, rebuilt-in-order}
 use Rattle.model.proofs.Snapshots.{length-those}
 use Rattle.model.proofs.Verdicts.{test-ok, then-ok}
 use Rattle.model.proofs.Lists.{zeros}
@@ -71,15 +76,17 @@ none-taken (suc n) = none-taken n
 
 rows-small :
     (s : Store) (t is ls : List ℕ) (i : ℕ) (rs : List Row) → length t ≡ s .ids → countIf isTaken t ≡ i
-    → ((x : ℕ) → elem x is ≡ false → getD t x 0 ≡ 0) → Small (suc (s .ids)) (rows s is ls i rs)
-rows-small s t is ls i [] e c f = small _ _ (omega arith) (omega arith)
-rows-small s t is ls i (r ∷ rs) e c f =
+    → ((x : ℕ) → elem x is ≡ false → getD t x 0 ≡ 0) → (ks : List Bool) → Small (suc (s .ids)) (rowsKeyed s is ls i rs ks)
+rows-small s t is ls i [] e c f ks = small _ _ (omega arith) (omega arith)
+rows-small s t is ls i (r ∷ rs) e c f [] = small _ _ (omega arith) (omega arith)
+rows-small s t is ls i (r ∷ rs) e c f (long ∷ ks) =
     let k : i < suc (s .ids) = omega (arith, countIf-le isTaken t) in
     small-then _ _ _ (small-test _ _ 8 i (omega arith) k) (λ in-range.
     small-then _ _ _ (small-test _ _ 9 i (omega arith) k) (λ new.
     small-then _ _ _ (small-test _ _ 3 i (omega arith) k) (λ at.
     small-then _ _ _ (small-test _ _ 16 i (omega arith) k) (λ free.
-    rows-small s (set t (r .0) 1) (r .0 ∷ is) (r .1 ∷ ls) (suc i) rs (length-set t (r .0) 1 ∙ e) (one-more (test-ok _ 8 i in-range) (test-ok _ 9 i new)) (marked (test-ok _ 9 i new))))))
+    small-then _ _ _ (small-test _ long 21 i (omega arith) k) (λ short.
+    rows-small s (set t (r .0) 1) (r .0 ∷ is) (r .1 ∷ ls) (suc i) rs (length-set t (r .0) 1 ∙ e) (one-more (test-ok _ 8 i in-range) (test-ok _ 9 i new)) (marked (test-ok _ 9 i new)) ks)))))
   where
     one-more : not (inIds s (r .0)) ≡ false → elem (r .0) is ≡ false → countIf isTaken (set t (r .0) 1) ≡ suc i
     one-more p q =
@@ -93,14 +100,16 @@ rows-small s t is ls i (r ∷ rs) e c f =
 
 -- ---- updates and kept rows: no more than the list has
 
-updates-small : (s : Store) (seen : List ℕ) (i b : ℕ) (us : List Update) → i + length us ≤ b → 0 < b → Small b (updates s seen i us)
-updates-small s seen i b [] h z = small _ _ (omega arith) z
-updates-small s seen i b (u ∷ us) h z =
+updates-small : (s : Store) (seen : List ℕ) (i b : ℕ) (us : List Update) (ks : List Bool) → i + length us ≤ b → 0 < b → Small b (updatesKeyed s seen i us ks)
+updates-small s seen i b [] ks h z = small _ _ (omega arith) z
+updates-small s seen i b (u ∷ us) [] h z = small _ _ (omega arith) z
+updates-small s seen i b (u ∷ us) (long ∷ ks) h z =
     let k : i < b = omega arith in
     small-then _ _ _ (small-test _ _ 8 i (omega arith) k) (λ _.
     small-then _ _ _ (small-test _ _ 9 i (omega arith) k) (λ _.
+    small-then _ _ _ (small-test _ long 21 i (omega arith) k) (λ _.
     small-then _ _ _ (small-test _ _ 2 i (omega arith) k) (λ _.
-    small-then _ _ _ (small-test _ _ 13 i (omega arith) k) (λ _. updates-small s _ (suc i) b us (omega arith) z))))
+    small-then _ _ _ (small-test _ _ 13 i (omega arith) k) (λ _. updates-small s _ (suc i) b us ks (omega arith) z)))))
 
 room-small : (cap : ℕ) (ms : List ℕ) (us : List Update) (n k b : ℕ) → k + n ≤ b → 0 < b → Small b (room cap ms us n k)
 unfolding room
@@ -158,16 +167,34 @@ ask-small s (snapshot file) ids =
 ask-small s (defrag r is ls) ids =
     small-first _ _ 1 _ (omega arith) (omega arith) (λ _. small-first _ _ 11 _ (omega arith) (omega arith) (λ _. small-test _ _ 14 0 (omega arith) (omega arith)))
 
+abbrev offerLists : Offer → Bool
+offerLists o = asLong (o .ids) (o .stores) && asLong (o .ids) (o .lengths) && asLong (o .ids) (o .placed) && carriesFor (o .ids) (o .carried)
+
+-- refusal 21 stands among the tests of a row
+offered-small : (s : Store) (o : Offer) → lists (offerLists o) ≡ ok → {b : ℕ} → Small b (updatesKeyed s [] 0 (updatesIn o) (longIn (o .stores) (o .carried)))
+    → Small b (withOfferedKeys o (updates s [] 0 (updatesIn o)))
+offered-small s o fit {b} h =
+    let a = and-true _ (carriesFor (o .ids) (o .carried)) (lists-ok (offerLists o) fit) in
+    let c = and-true _ (asLong (o .ids) (o .placed)) (a .0) in
+    let d = and-true (asLong (o .ids) (o .stores)) (asLong (o .ids) (o .lengths)) (c .0) in
+    subst (Small b) (sym (offered-in-order s o (eqb-true _ _ (d .0)) (eqb-true _ _ (d .1)))) h
+
+rebuilt-small : (s : Store) (rs : Rows) → lists (asLong (rs .ids) (rs .locations) && carriesFor (rs .ids) (rs .carried)) ≡ ok
+    → {b : ℕ} → Small b (rowsKeyed s [] [] 0 (rowsIn rs) (longIn (allStored (rs .ids)) (rs .carried))) → Small b (withRebuiltKeys rs (rows s [] [] 0 (rowsIn rs)))
+rebuilt-small s rs fit {b} h =
+    let a = and-true (asLong (rs .ids) (rs .locations)) (carriesFor (rs .ids) (rs .carried)) (lists-ok _ fit) in
+    subst (Small b) (sym (rebuilt-in-order s rs (eqb-true _ _ (a .0)))) h
+
 -- the tests of a call whose tables fit
 rest-small : (s : Store) (c : Call) → s .ids ≤ 65536 → Small 65537 (refusalOf s c)
 unfolding refusalOf
 rest-small s newId ids = small-first _ _ 11 _ (omega arith) (omega arith) (λ _. small-test _ _ 10 0 (omega arith) (omega arith))
 rest-small s release ids = small-test _ _ 11 0 (omega arith) (omega arith)
 rest-small s (offer o) ids =
-    small-first _ _ 1 _ (omega arith) (omega arith) (λ _. small-first _ _ 11 _ (omega arith) (omega arith) (λ _.
+    small-first _ _ 1 _ (omega arith) (omega arith) (λ fit. small-first _ _ 11 _ (omega arith) (omega arith) (λ _.
     small-first _ _ 15 _ (omega arith) (omega arith) (λ few.
-    small-then _ _ _ (wider mostUpdates 65537 _ (omega arith) (updates-small s [] 0 mostUpdates (updatesIn o)
-    (omega (arith, length-updates (o .ids) (o .stores) (o .lengths), ltb-false mostUpdates (length (o .ids)) (test-ok _ 15 0 few))) (omega arith)))
+    small-then _ _ _ (wider mostUpdates 65537 _ (omega arith) (offered-small s o fit (updates-small s [] 0 mostUpdates (updatesIn o) _
+    (omega (arith, length-updates (o .ids) (o .stores) (o .lengths), ltb-false mostUpdates (length (o .ids)) (test-ok _ 15 0 few))) (omega arith))))
     (λ _. wider slabs 65537 _ (omega arith) (room-small _ _ _ slabs 0 slabs (omega arith) (omega arith))))))
 rest-small s commit ids =
     small-then _ _ _ (small-first _ _ 12 _ (omega arith) (omega arith) (λ _. small-test _ _ 13 0 (omega arith) (omega arith)))
@@ -177,9 +204,9 @@ rest-small s abandon ids =
     (λ opened. wider mostOpened 65537 _ (omega arith) (abandon-small s 0 mostOpened (kept s) (omega (arith, kept-most s (then-ok _ _ opened))) (omega arith)))
 rest-small s fresh ids = small _ _ (omega arith) (omega arith)
 rest-small s (rebuild rs) ids =
-    small-first _ _ 1 _ (omega arith) (omega arith) (λ _.
-    wider (suc (s .ids)) 65537 _ (omega arith)
-    (rows-small s (replicate (s .ids) 0) [] [] 0 (rowsIn rs) (length-replicate {A = ℕ} (s .ids) 0) (none-taken (s .ids)) (λ x _. zeros (s .ids) x)))
+    small-first _ _ 1 _ (omega arith) (omega arith) (λ fit.
+    wider (suc (s .ids)) 65537 _ (omega arith) (rebuilt-small s rs fit
+    (rows-small s (replicate (s .ids) 0) [] [] 0 (rowsIn rs) (length-replicate {A = ℕ} (s .ids) 0) (none-taken (s .ids)) (λ x _. zeros (s .ids) x) _)))
 rest-small s (ask q) ids = ask-small s q ids
 rest-small s (truncation k t) ids = slab-small s k t
 rest-small s (report k t) ids = small-then _ _ _ (slab-small s k t) (λ _. small-test _ _ 17 0 (omega arith) (omega arith))

@@ -65,15 +65,18 @@ four-words (x ∷ y ∷ z ∷ []) t u v w h = absurd (omega arith)
 four-words (a ∷ b ∷ c ∷ d ∷ []) t u v w h = refl
 four-words (a ∷ b ∷ c ∷ d ∷ e ∷ l) t u v w h = absurd (omega arith)
 
-pub six-words : (l : List ℕ) (r s t u v w : ℕ) → length l ≡ 6 → r ∷ s ∷ t ∷ u ∷ v ∷ w ∷ [] ≡ set (set (set (set (set (set l 0 r) 1 s) 2 t) 3 u) 4 v) 5 w
-six-words [] r s t u v w h = absurd (omega arith)
-six-words (a ∷ []) r s t u v w h = absurd (omega arith)
-six-words (a ∷ b ∷ []) r s t u v w h = absurd (omega arith)
-six-words (a ∷ b ∷ c ∷ []) r s t u v w h = absurd (omega arith)
-six-words (a ∷ b ∷ c ∷ d ∷ []) r s t u v w h = absurd (omega arith)
-six-words (a ∷ b ∷ c ∷ d ∷ e ∷ []) r s t u v w h = absurd (omega arith)
-six-words (a ∷ b ∷ c ∷ d ∷ e ∷ f ∷ []) r s t u v w h = refl
-six-words (a ∷ b ∷ c ∷ d ∷ e ∷ f ∷ g ∷ l) r s t u v w h = absurd (omega arith)
+pub eight-words : (l : List ℕ) (o p r s t u v w : ℕ) → length l ≡ 8
+    → o ∷ p ∷ r ∷ s ∷ t ∷ u ∷ v ∷ w ∷ [] ≡ set (set (set (set (set (set (set (set l 0 o) 1 p) 2 r) 3 s) 4 t) 5 u) 6 v) 7 w
+eight-words [] o p r s t u v w h = absurd (omega arith)
+eight-words (a ∷ []) o p r s t u v w h = absurd (omega arith)
+eight-words (a ∷ b ∷ []) o p r s t u v w h = absurd (omega arith)
+eight-words (a ∷ b ∷ c ∷ []) o p r s t u v w h = absurd (omega arith)
+eight-words (a ∷ b ∷ c ∷ d ∷ []) o p r s t u v w h = absurd (omega arith)
+eight-words (a ∷ b ∷ c ∷ d ∷ e ∷ []) o p r s t u v w h = absurd (omega arith)
+eight-words (a ∷ b ∷ c ∷ d ∷ e ∷ f ∷ []) o p r s t u v w h = absurd (omega arith)
+eight-words (a ∷ b ∷ c ∷ d ∷ e ∷ f ∷ g ∷ []) o p r s t u v w h = absurd (omega arith)
+eight-words (a ∷ b ∷ c ∷ d ∷ e ∷ f ∷ g ∷ i ∷ []) o p r s t u v w h = refl
+eight-words (a ∷ b ∷ c ∷ d ∷ e ∷ f ∷ g ∷ i ∷ j ∷ l) o p r s t u v w h = absurd (omega arith)
 
 -- ---- a store's answers
 

@@ -3,12 +3,12 @@ ghost use mathlib.Core.Path.{_≡_};
 ghost use Rattle.model.specs.Store.{ask, snapshotLength, snapshot};
 ghost use Rattle.model.specs.Lent.{answered};
 ghost use Rattle.model.specs.Outcomes.{outcomeOf, listIn};
-ghost use Rattle.snapshot_blocks.specs.Formats.{version1};
-ghost use Rattle.snapshot.specs.Snapshot.{stepOf};
+ghost use Rattle.snapshot_blocks.specs.Formats.{formatOf};
+ghost use Rattle.snapshot.specs.Snapshot.{stepBy};
 ghost use Rattle.snapshot_lists.specs.Lists.{readInto};
 ghost use Rattle.exports_status.specs.Status.{statusOf, Exported, exported};
 ghost use Rattle.exports.specs.Answers.{whereFits};
-ghost use Rattle.exports.specs.Snapshots.{stepInSix, takenInOne};
+ghost use Rattle.exports.specs.Snapshots.{stepInEight, takenInOne};
 use crate::values;
 use exports_status::WRONG_LENGTH;
 use exports_status::status;
@@ -100,8 +100,8 @@ pub extern "C" fn wentuhoro_snapshot_write(
     }
 }
 
-// The row at a position of a snapshot. Six values: 1, id, collection, location, and block and row of the next position; or six zeros at
-// the end.
+// The row at a position of a snapshot. Eight values: 1, id, collection, location, block and row of the next position, and where in the file the
+// key stands and how long it is; or eight zeros at the end.
 #[no_mangle]
 pub extern "C" fn wentuhoro_snapshot_step(
     file: &[u8],
@@ -110,15 +110,15 @@ pub extern "C" fn wentuhoro_snapshot_step(
     values: &mut [u64],
 ) -> u64
     ensures { λ r. ⌜ _≡_ {A = Exported} (record { status = r; lent = now (values .exit) })
-        (exported 6 (stepInSix (stepOf version1 block row (now (file .entry)))) (now (values .entry))) ⌝ }
+        (exported 8 (stepInEight (stepBy formatOf block row (now (file .entry)))) (now (values .entry))) ⌝ }
 {
-    if values.len() != 6 {
+    if values.len() != 8 {
         return WRONG_LENGTH;
     }
     let at = Position { block, row };
     match at.step(file) {
         Step::Row(found, next) => {
-            values::six(
+            values::eight(
                 values,
                 1,
                 found.id,
@@ -126,18 +126,20 @@ pub extern "C" fn wentuhoro_snapshot_step(
                 found.location,
                 next.block as u64,
                 next.row as u64,
+                found.key as u64,
+                found.length as u64,
             );
             0
         }
         Step::End => {
-            values::six(values, 0, 0, 0, 0, 0, 0);
+            values::eight(values, 0, 0, 0, 0, 0, 0, 0, 0);
             0
         }
         Step::Refused(r) => status(r),
     }
 }
 
-// Reads a whole snapshot into lists, which have room for 20 rows a block. How many rows there are, one value.
+// Reads a whole snapshot into lists, which have room for 20 rows a block, 5 where the first block is of version 2. How many rows there are, one value.
 #[no_mangle]
 pub extern "C" fn wentuhoro_snapshot_read(
     file: &[u8],

@@ -30,7 +30,7 @@ pub(crate) fn four(values: &mut [u64], first: u64, second: u64, third: u64, four
     values[3] = fourth;
 }
 
-pub(crate) fn six(
+pub(crate) fn eight(
     values: &mut [u64],
     first: u64,
     second: u64,
@@ -38,9 +38,11 @@ pub(crate) fn six(
     fourth: u64,
     fifth: u64,
     sixth: u64,
+    seventh: u64,
+    eighth: u64,
 )
-    requires { ⌜ length (now values) ≡ 6 ⌝ }
-    ensures { λ _. ⌜ now (values .exit) ≡ first ∷ second ∷ third ∷ fourth ∷ fifth ∷ sixth ∷ [] ⌝ }
+    requires { ⌜ length (now values) ≡ 8 ⌝ }
+    ensures { λ _. ⌜ now (values .exit) ≡ first ∷ second ∷ third ∷ fourth ∷ fifth ∷ sixth ∷ seventh ∷ eighth ∷ [] ⌝ }
 {
     values[0] = first;
     values[1] = second;
@@ -48,4 +50,6 @@ pub(crate) fn six(
     values[3] = fourth;
     values[4] = fifth;
     values[5] = sixth;
+    values[6] = seventh;
+    values[7] = eighth;
 }

@@ -15,8 +15,10 @@ use Rattle.address.specs.Address.{badSlots}
 use Rattle.marks.specs.Marks.{isHeld}
 use Rattle.model.specs.Batches.{room}
 use Rattle.carried.specs.Carried.{putRow, putRows, upFrom, keptRow, committed}
+use Rattle.little_endian.specs.LittleEndian.{word, getAt}
+use Rattle.keys.specs.Keys.{keyIsLong, normal, longIn, normalRows}
 use Rattle.model.specs.Columns.{offeredColumn, committedColumn}
-use Rattle.model.specs.Cases.{stores, frees, collection}
+use Rattle.model.specs.Cases.{stores, frees, bringing, keeping}
 use Rattle.model.specs.Defrag.{movesFrom}
 use Rattle.model.specs.Ids.{bumpPending}
 use Rattle.model.specs.Lending.{lentFit, sized}
@@ -24,10 +26,11 @@ use Rattle.model.specs.Questions.{askRefusal, reply}
 use Rattle.model.specs.Step.{state, answer, next, refusalOf, refusal, grant, effect}
 use Rattle.model.specs.Store.{lookup, Call, newId, commit, release, ask}
 use Rattle.model.specs.Tables.{badIds, heldId, locationOf, inIds}
-use Rattle.model.specs.Verdict.{_⨾_, test}
+use Rattle.model.specs.Verdict.{_⨾_, test, testsFrom, earlier}
 use Rattle.histories.specs.Statements.{AtRest, RebuildMet, AbandonMet}
 use Rattle.histories.proofs.LiveRows.{liveRows, liveBytes, live-rows}
 use Rattle.histories.proofs.Reached.{reached}
+use Rattle.histories.proofs.NormalRows.{reached-normal}
 
 abbrev pub calls : List Call
 calls =
@@ -42,25 +45,25 @@ no-2 [] e i = λ p. suc-ne-zero 1 (sym p)
 no-2 (m ∷ t) e zero = eqb-false m 2 (not-true _ (and-true (not (eqb m 2)) (without2 t) e .0))
 no-2 (m ∷ t) e (suc i) = no-2 t (and-true (not (eqb m 2)) (without2 t) e .1) i
 
-abbrev allStored : List ℕ → List ℕ → Bool
-allStored [] lo = true
-allStored (m ∷ im) [] = not (isHeld m) && allStored im []
-allStored (m ∷ im) (l ∷ lo) = (not (isHeld m) || not (eqb l 0)) && allStored im lo
+abbrev eachStored : List ℕ → List ℕ → Bool
+eachStored [] lo = true
+eachStored (m ∷ im) [] = not (isHeld m) && eachStored im []
+eachStored (m ∷ im) (l ∷ lo) = (not (isHeld m) || not (eqb l 0)) && eachStored im lo
 
-is-stored : (im lo : List ℕ) → allStored im lo ≡ true → (i : ℕ) → isHeld (getD im i 0) ≡ true → getD lo i 0 ≢ 0
+is-stored : (im lo : List ℕ) → eachStored im lo ≡ true → (i : ℕ) → isHeld (getD im i 0) ≡ true → getD lo i 0 ≢ 0
 is-stored [] lo e i h = clash (sym h)
-is-stored (m ∷ im) [] e zero h = absurd (true≢false (sym h ∙ not-true _ (and-true (not (isHeld m)) (allStored im []) e .0)))
-is-stored (m ∷ im) [] e (suc i) h = is-stored im [] (and-true (not (isHeld m)) (allStored im []) e .1) i h
+is-stored (m ∷ im) [] e zero h = absurd (true≢false (sym h ∙ not-true _ (and-true (not (isHeld m)) (eachStored im []) e .0)))
+is-stored (m ∷ im) [] e (suc i) h = is-stored im [] (and-true (not (isHeld m)) (eachStored im []) e .1) i h
 is-stored (m ∷ im) (l ∷ lo) e zero h =
-    go (isHeld m) h (and-true (not (isHeld m) || not (eqb l 0)) (allStored im lo) e .0)
+    go (isHeld m) h (and-true (not (isHeld m) || not (eqb l 0)) (eachStored im lo) e .0)
   where
     go : (b : Bool) → b ≡ true → (not b || not (eqb l 0)) ≡ true → l ≢ 0
     go true h f = eqb-false l 0 (not-true _ f)
     go false h f = clash (sym h)
-is-stored (m ∷ im) (l ∷ lo) e (suc i) h = is-stored im lo (and-true (not (isHeld m) || not (eqb l 0)) (allStored im lo) e .1) i h
+is-stored (m ∷ im) (l ∷ lo) e (suc i) h = is-stored im lo (and-true (not (isHeld m) || not (eqb l 0)) (eachStored im lo) e .1) i h
 
 pub at-rest : AtRest (state 9 4 calls)
-unfolding _⨾_ test answer next refusal refusalOf askRefusal reply lentFit grant effect badIds badSlots slabFor firstFit slabSizes fieldWidth room bumpPending movesFrom offeredColumn committedColumn putRow putRows upFrom keptRow committed
+unfolding _⨾_ test answer next refusal refusalOf askRefusal reply lentFit grant effect badIds badSlots slabFor firstFit slabSizes fieldWidth room bumpPending movesFrom offeredColumn committedColumn putRow putRows upFrom keptRow committed testsFrom earlier keyIsLong longIn normal normalRows getAt word
 at-rest = record {
   closed = refl;
   no-id = no-2 (state 9 4 calls .idMarks) refl;
@@ -74,9 +77,9 @@ at-rest = record {
         (and-true (inIds (state 9 4 calls) (suc i)) _ h .1)
 
 pub rebuild-met : RebuildMet
-unfolding sized _⨾_ test answer next refusal refusalOf askRefusal reply lentFit grant effect badIds badSlots slabFor firstFit slabSizes fieldWidth room bumpPending movesFrom offeredColumn committedColumn putRow putRows upFrom keptRow committed
-rebuild-met = (calls, liveRows (state 9 4 calls), liveBytes (state 9 4 calls), at-rest, live-rows (state 9 4 calls) (reached 9 4 refl calls) at-rest, refl, refl)
+unfolding sized _⨾_ test answer next refusal refusalOf askRefusal reply lentFit grant effect badIds badSlots slabFor firstFit slabSizes fieldWidth room bumpPending movesFrom offeredColumn committedColumn putRow putRows upFrom keptRow committed testsFrom earlier keyIsLong longIn normal normalRows getAt word
+rebuild-met = (calls, liveRows (state 9 4 calls), liveBytes (state 9 4 calls), at-rest, live-rows (state 9 4 calls) (reached 9 4 refl calls) at-rest (reached-normal 9 4 calls), refl, refl)
 
 pub abandon-met : AbandonMet
-unfolding _⨾_ test answer next refusal refusalOf askRefusal reply lentFit grant effect badIds badSlots slabFor firstFit slabSizes fieldWidth room bumpPending movesFrom offeredColumn committedColumn putRow putRows upFrom keptRow committed
-abandon-met = (calls, record { ids = 1 ∷ []; stores = true ∷ []; lengths = 60 ∷ []; carried = collection 7; placed = 0 ∷ [] }, ask (lookup 3 (collection 0)) ∷ newId ∷ [], refl, (refl, (refl, refl)), refl, refl)
+unfolding _⨾_ test answer next refusal refusalOf askRefusal reply lentFit grant effect badIds badSlots slabFor firstFit slabSizes fieldWidth room bumpPending movesFrom offeredColumn committedColumn putRow putRows upFrom keptRow committed testsFrom earlier keyIsLong longIn normal normalRows getAt word
+abandon-met = (calls, record { ids = 1 ∷ []; stores = true ∷ []; lengths = 60 ∷ []; carried = bringing 7 []; placed = 0 ∷ [] }, ask (lookup 3 (keeping 0 [])) ∷ newId ∷ [], refl, (refl, (refl, refl)), refl, refl)

@@ -9,6 +9,8 @@ pub mod SameMoves
 pub mod SameAnswers
 pub mod Abandoned
 pub mod Rebuilt
+pub mod NormalRows
+pub mod Brought
 pub mod LiveRows
 pub mod TalliedCounters
 pub mod TalliedIds

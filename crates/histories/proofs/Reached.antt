@@ -10,17 +10,16 @@ use Rattle.carried.proofs.Laws.{length-putRows, length-committed}
 use Rattle.model.specs.Batches.{updatesIn, afterOffer, afterCommit}
 use Rattle.model.specs.Columns.{offeredColumn, committedColumn, rebuiltColumn}
 use Rattle.model.specs.Rebuild.{rebuilt, rowsIn, freshStore}
-use Rattle.model.specs.Step.{effect, refusalOf, refusal, next, unless, after}
+use Rattle.model.specs.Step.{effect, refusal, next, unless, after}
 use Rattle.model.specs.Store.{Store, withCarried, Call, newId, release, offer, commit, abandon, fresh, rebuild, ask, truncation, report}
 use Rattle.model.specs.Tables.{capacities, kept, slabTip}
 use Rattle.model.specs.Lending.{sized}
 use Rattle.model.specs.Truncation.{withHigh, raise}
 use Rattle.model.specs.Verdict.{ok, Verdict, refuse}
 use Rattle.model.proofs.Batches.{length-updatesOf}
-use Rattle.model.proofs.Granted.{granted-rest, offer-granted}
+use Rattle.model.proofs.Granted.{offer-granted, rebuild-rows}
 use Rattle.model.proofs.Sizes.{sized-sizes, slabTip-le, length-raise}
 use Rattle.model.proofs.Lists.{set-each}
-use Rattle.model.proofs.Verdicts.{then-ok}
 use Rattle.histories.specs.Invariant.{Inv}
 use Rattle.histories.specs.Statements.{Reached}
 use Rattle.histories.proofs.Kept.{sized-same, rows-frame, keep-newId, keep-release, keep-commit}
@@ -42,7 +41,7 @@ raise-lt h k zero n p a = a
 raise-lt h k (suc t) n p a = set-each (λ x. x < n) h k (max (getD h k 0) t) (omega (arith, a k)) a
 
 pub keep-effect : (s : Store) (c : Call) → Inv s → refusal s c ≡ ok → Inv (effect s c)
-unfolding refusalOf effect offeredColumn committedColumn rebuiltColumn
+unfolding effect offeredColumn committedColumn rebuiltColumn
 keep-effect s newId v e = keep-newId s v
 keep-effect s release v e = keep-release s v
 keep-effect s (offer o) v e =
@@ -54,8 +53,8 @@ keep-effect s commit v e = keep-carried (afterCommit s) (committedColumn (s .ids
 keep-effect s abandon v e = keep-abandon s v
 keep-effect s fresh v e = rebuilt-inv s [] (caps-of s (v .is-sized)) tt
 keep-effect s (rebuild rs) v e =
-    keep-carried (rebuilt (s .ids) (s .slots) (rowsIn rs)) (rebuiltColumn (s .ids) rs) (length-putRows width (rs .ids) (rs .carried) _)
-    (rebuilt-inv s (rowsIn rs) (caps-of s (v .is-sized)) (rows-apart s [] [] 0 (rowsIn rs) (then-ok _ _ (granted-rest s (rebuild rs) e))))
+    keep-carried (rebuilt (s .ids) (s .slots) (rowsIn rs)) (rebuiltColumn (s .ids) rs) (length-putRows width (rs .ids) _ _)
+    (rebuilt-inv s (rowsIn rs) (caps-of s (v .is-sized)) (rows-apart s [] [] 0 (rowsIn rs) (rebuild-rows s rs e)))
 keep-effect s (ask q) v e = v
 keep-effect s (truncation k t) v e = keep-high s (raise (s .tallies .high) k (slabTip s k)) (length-raise (s .tallies .high) k (slabTip s k))
     (raise-lt (s .tallies .high) k (slabTip s k) (s .slots) (slabTip-le s (sized-sizes s (v .is-sized) .range .slots-from) k) (v .tops)) v

@@ -17,7 +17,7 @@ use Rattle.list_parts.specs.Lists.{elem}
 use Rattle.list_parts.proofs.Lists.{elem-head, elem-tail, elem-cases, elem-not}
 use Rattle.list_parts.specs.Parts.{part}
 use Rattle.carried.specs.Carried.{width, putRows}
-use Rattle.carried.proofs.Laws.{length-putRows, putRows-own, length-rowsAt}
+use Rattle.carried.proofs.Laws.{length-putRows, putRows-own}
 use Rattle.address.specs.Address.{packing, isLocation, slabs}
 use Rattle.marks.specs.Marks.{isHeld}
 use Rattle.id_allocator.specs.Written.{opened}
@@ -27,7 +27,7 @@ use Rattle.model.specs.Lending.{everyTable, sized}
 use Rattle.model.specs.Step.{effect, next, refusalOf, refusal, unless, after, state}
 use Rattle.model.specs.Store.{Store, withCarried, Rows, Call, newId, release, offer, commit, abandon, fresh, rebuild, ask, truncation, report, Row}
 use Rattle.model.specs.Tables.{mostUpdates, carriedBytes, kept, slotPlace, idsOf, locationsOf, heldId, locationOf, live, inIds, writeAll, pairs}
-use Rattle.model.specs.Verdict.{ok, Verdict, refuse, _⨾_, test}
+use Rattle.model.specs.Verdict.{ok, Verdict, refuse, _⨾_, test, earlier}
 use Rattle.model.proofs.Answered.{next-granted}
 use Rattle.model.proofs.Rows.{asLong-rows, rowsOf-rows}
 use Rattle.model.proofs.Sizes.{Sizes, sized-sizes, sized-shape}
@@ -92,7 +92,7 @@ mem-loc r (q ∷ qs) m = go (λ k. mem-loc r qs k) (List·Memᴰ·cases-cons m)
     go f (inl e) = elem-head (r .1) (q .1) (locationsOf qs) (ap (λ x. x .1) e)
     go f (inr k) = elem-tail (r .1) (q .1) (locationsOf qs) (f k)
 
-id-mem : (i : ℕ) (rs : List Row) → elem i (idsOf rs) ≡ true → (r : Row) × List·Memᴰ r rs × (r .0 ≡ i)
+pub id-mem : (i : ℕ) (rs : List Row) → elem i (idsOf rs) ≡ true → (r : Row) × List·Memᴰ r rs × (r .0 ≡ i)
 id-mem i [] e = clash (sym e)
 id-mem i (q ∷ qs) e = go (λ k. id-mem i qs k) (elem-cases i (q .0) (idsOf qs) e)
   where
@@ -157,13 +157,13 @@ heldBy-out (r ∷ rs) t i e =
     let n = elem-not i (r .0) (idsOf rs) e in
     heldBy-out rs (set t (r .0) 1) i (n .1) ∙ getD-set-other t (r .0) i 1 0 (n .0)
 
-locatedBy-out : (rs : List Row) (t : List ℕ) (i : ℕ) → elem i (idsOf rs) ≡ false → getD (locatedBy rs t) i 0 ≡ getD t i 0
+pub locatedBy-out : (rs : List Row) (t : List ℕ) (i : ℕ) → elem i (idsOf rs) ≡ false → getD (locatedBy rs t) i 0 ≡ getD t i 0
 locatedBy-out [] t i e = refl
 locatedBy-out (r ∷ rs) t i e =
     let n = elem-not i (r .0) (idsOf rs) e in
     locatedBy-out rs (set t (r .0) (r .1)) i (n .1) ∙ getD-set-other t (r .0) i (r .1) 0 (n .0)
 
-locatedBy-in : {rs : List Row} (t : List ℕ) (r : Row) → Distinct rs → List·Memᴰ r rs → r .0 < length t → getD (locatedBy rs t) (r .0) 0 ≡ r .1
+pub locatedBy-in : {rs : List Row} (t : List ℕ) (r : Row) → Distinct rs → List·Memᴰ r rs → r .0 < length t → getD (locatedBy rs t) (r .0) 0 ≡ r .1
 locatedBy-in t r none m h = absurd (List·Memᴰ·not-nil m)
 locatedBy-in t r (more {r = q} {rs = qs} e d) m h = go (λ k. locatedBy-in (set t (q .0) (q .1)) r d k (rw length-set h)) (List·Memᴰ·cases-cons m)
   where
@@ -316,9 +316,6 @@ module _ (s : Store) (v : Inv s) (a : AtRest s) (rs : List Row) (bytes : List �
       let h = ltb-true (q .0 .0) (s .ids) (and-true (ltb 0 (q .0 .0)) _ (and-true (inIds s (q .0 .0)) _ (live .only (q .0) (q .1) .0) .0) .1) in
       omega (arith, q .2)
 
-  long-bytes : length bytes ≡ length (idsOf rs) * width
-  long-bytes = ap length (live .carries) ∙ length-rowsAt width (s .ids + mostUpdates) (s .carried) (idsOf rs) (sz s v a .carried) row-lt
-
   rebuilt-alike : Alike (withCarried (rebuilt (s .ids) (s .slots) rs) (rebuiltColumn (s .ids) (columns rs bytes))) s
   unfolding rebuiltColumn
   rebuilt-alike = closed-alike (same-carried _ (s .carried) rebuilt-same)
@@ -339,12 +336,13 @@ rows-by-caps s t p q is ls i (r ∷ rs) = λ k.
 
 live-granted : (s : Store) → Inv s → AtRest s → (rs : List Row) (bytes : List ℕ) → LiveRows s rs bytes → (memory : Store) → memory .ids ≡ s .ids → memory .slots ≡ s .slots
     → sized memory ≡ true → refusal memory (rebuild (columns rs bytes)) ≡ ok
-unfolding refusal refusalOf _⨾_ test
+unfolding refusal refusalOf _⨾_ test earlier
 live-granted s v a rs bytes live memory p q z = λ k.
     sized-shape memory z (rebuild (columns rs bytes)) k ⨾
-    test (not (all (asLong-rows rs) (eq-eqb _ _ (long-bytes s v a rs bytes live)) k)) wrongShape 0 ⨾
-    (ap (rows memory [] [] 0) (rowsOf-rows rs) ∙ rows-by-caps memory s p q [] [] 0 rs
-    ∙ apart-granted s [] [] 0 rs (live-apart s v a rs bytes live) (λ x e. clash (sym e)) (λ x e. clash (sym e))) k
+    test (not (all (asLong-rows rs) (eq-eqb _ _ (live .wide)) k)) wrongShape 0 ⨾
+    earlier (λ n. true)
+    ((ap (rows memory [] [] 0) (rowsOf-rows rs) ∙ rows-by-caps memory s p q [] [] 0 rs
+    ∙ apart-granted s [] [] 0 rs (live-apart s v a rs bytes live) (λ x e. clash (sym e)) (λ x e. clash (sym e))) k) (live .short k)
 
 rebuild-next : (memory : Store) (rs : List Row) (bytes : List ℕ) → refusal memory (rebuild (columns rs bytes)) ≡ ok
     → next memory (rebuild (columns rs bytes)) ≡ withCarried (rebuilt (memory .ids) (memory .slots) rs) (rebuiltColumn (memory .ids) (columns rs bytes))
@@ -355,7 +353,7 @@ rebuild-next memory rs bytes e =
 
 length-rebuilt : (n : ℕ) (rs : Rows) → length (rebuiltColumn n rs) ≡ length (replicate {A = ℕ} (carriedBytes n) 0)
 unfolding rebuiltColumn
-length-rebuilt n rs = length-putRows width (rs .ids) (rs .carried) _
+length-rebuilt n rs = length-putRows width (rs .ids) _ _
 
 pub rebuild-agrees : RebuildAgrees
 rebuild-agrees n m h rs bytes memory c a live en em z =

@@ -13,12 +13,12 @@ use Rattle.list_parts.specs.Lists.{elem}
 use Rattle.address.specs.Address.{isLocation, slabs}
 use Rattle.marks.specs.Marks.{isHeld, firstFree}
 use Rattle.id_allocator.specs.Written.{opened}
-use Rattle.snapshot_blocks.specs.Formats.{version1}
+use Rattle.snapshot_blocks.specs.Formats.{version2}
 use Rattle.snapshot_blocks.specs.Files.{fileLength}
 use Rattle.carried.specs.Carried.{width}
 use Rattle.fragmentation.specs.Cutoff.{isRatio}
 use Rattle.model.specs.Batches.{updates, idOf, noClass, room, badRow, commitRows, abandonRows, takenBy, place, updatesIn}
-use Rattle.model.specs.Columns.{carriesFor}
+use Rattle.model.specs.Columns.{carriesFor, withOfferedKeys, withRebuiltKeys}
 use Rattle.model.specs.Ids.{nextId}
 use Rattle.model.specs.Questions.{askRefusal}
 use Rattle.model.specs.Rebuild.{rows, rowsIn}
@@ -190,7 +190,7 @@ module _ (s t : Store) (e : Same s t) (vs : Inv s) (vt : Inv t) where
       lists (eqb (suc (length is)) (e .ids k) && asLong is ls) ⨾ none-open k ⨾ test (not (isRatio r)) ratioOutOfRange 0
   ask-same snapshotLength = none-open
   ask-same (snapshot file) = λ k.
-      lists (eqb (length file) (fileLength version1 (length (stored-same k)))) ⨾ none-open k ⨾
+      lists (eqb (length file) (fileLength version2 (length (stored-same k)))) ⨾ none-open k ⨾
       snapshotRows (λ i. bad-same i k) 0 (stored-same k)
 
   -- ---- refused alike: the tests after refusal 1, which no such store gives for its tables
@@ -207,7 +207,7 @@ module _ (s t : Store) (e : Same s t) (vs : Inv s) (vt : Inv t) where
   unfolding refusalOf
   rest-offer o = λ k.
       lists (asLong (o .ids) (o .stores) && asLong (o .ids) (o .lengths) && asLong (o .ids) (o .placed) && carriesFor (o .ids) (o .carried)) ⨾ none-open k ⨾
-      test (ltb mostUpdates (length (o .ids))) tooMany 0 ⨾ updates-same [] 0 (updatesIn o) k ⨾ room-same (updatesIn o) slabs 0 k
+      test (ltb mostUpdates (length (o .ids))) tooMany 0 ⨾ withOfferedKeys o (updates-same [] 0 (updatesIn o) k) ⨾ room-same (updatesIn o) slabs 0 k
 
   pub rest-commit : refusalOf s commit ≡ refusalOf t commit
   unfolding refusalOf
@@ -219,7 +219,7 @@ module _ (s t : Store) (e : Same s t) (vs : Inv s) (vt : Inv t) where
 
   pub rest-rebuild : (rs : Rows) → refusalOf s (rebuild rs) ≡ refusalOf t (rebuild rs)
   unfolding refusalOf
-  rest-rebuild rs = λ k. lists (asLong (rs .ids) (rs .locations) && carriesFor (rs .ids) (rs .carried)) ⨾ rows-same [] [] 0 (rowsIn rs) k
+  rest-rebuild rs = λ k. lists (asLong (rs .ids) (rs .locations) && carriesFor (rs .ids) (rs .carried)) ⨾ withRebuiltKeys rs (rows-same [] [] 0 (rowsIn rs) k)
 
   pub refusal-by : (c : Call) → refusalOf s c ≡ refusalOf t c → refusal s c ≡ refusal t c
   unfolding refusal

@@ -11,7 +11,7 @@ use Rattle.refusal.specs.Outcomes.{granted}
 use Rattle.refusal.specs.Refusals.{nothingToCut}
 use Rattle.refusal.proofs.Tests.{or-false}
 use Rattle.list_parts.proofs.Lists.{drop-map}
-use Rattle.snapshot_blocks.specs.Formats.{version1}
+use Rattle.snapshot_blocks.specs.Formats.{version2}
 use Rattle.snapshot_blocks.specs.Files.{fileOf, fileLength}
 use Rattle.carried.specs.Carried.{width}
 use Rattle.carried.proofs.Laws.{Carry}
@@ -192,8 +192,8 @@ unfolding reply
 reply-seen s t e vs vt (lookup i row) r = λ k. shown (granted (found (loc-same s t (e .same) vs vt i k) (e .rows i (found-one s i row r) k)))
 reply-seen s t e vs vt counters r = refl
 reply-seen s t e vs vt (defrag r is ls) x = ap (λ ms. shown (granted (moves ms))) (allMoves-same s t (e .same) vs vt r)
-reply-seen s t e vs vt snapshotLength r = ap (λ is. shown (granted (gave (fileLength version1 (length is))))) (stored-same s t (e .same) vs vt)
-reply-seen s t e vs vt (snapshot file) r = ap (λ es. shown (granted (wrote (fileOf version1 es)))) (entries-alike s t e vs vt)
+reply-seen s t e vs vt snapshotLength r = ap (λ is. shown (granted (gave (fileLength version2 (length is))))) (stored-same s t (e .same) vs vt)
+reply-seen s t e vs vt (snapshot file) r = ap (λ es. shown (granted (wrote (fileOf version2 es)))) (entries-alike s t e vs vt)
 
 -- a cut report may be refused in one and granted in the other, and moves a high mark alone
 report-alike : (s t : Store) → Alike s t → (k d : ℕ) → Alike (next s (report k d)) (next t (report k d))

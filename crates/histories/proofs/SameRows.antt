@@ -13,16 +13,17 @@ use Rattle.list_parts.specs.Parts.{part}
 use Rattle.snapshot_blocks.specs.Blocks.{entryFor}
 use Rattle.carried.specs.Carried.{width, putRows, upFrom, committed}
 use Rattle.carried.proofs.Laws.{Carry, Below, located, putRows-other, putRows-same, upFrom-below, elem-upFrom, length-upFrom, committed-same}
+use Rattle.keys.specs.Keys.{normalRows}
+use Rattle.keys.proofs.Laws.{length-normalRows}
 use Rattle.model.specs.Batches.{idOf, updatesIn, takenBy, applyRow, applyRows, afterOffer, afterCommit}
 use Rattle.model.specs.Columns.{offeredColumn, committedColumn}
-use Rattle.model.specs.Lending.{everyTable}
 use Rattle.model.specs.Snapshots.{isStored, thoseFrom, entriesOf}
 use Rattle.model.specs.Store.{Store, withCarried, Row, Offer}
-use Rattle.model.specs.Tables.{mostUpdates, carriedBytes, locationOf, heldId, pairs, idsOf, kept}
+use Rattle.model.specs.Tables.{mostUpdates, carriedBytes, locationOf, heldId, pairs, kept}
 use Rattle.model.proofs.Batches.{length-updatesOf, length-place}
 use Rattle.model.proofs.Granted.{Offered}
 use Rattle.model.proofs.Lists.{nz-lt, one-nz}
-use Rattle.model.proofs.Sizes.{Sizes, sized-sizes}
+use Rattle.model.proofs.Sizes.{sized-sizes}
 use Rattle.histories.specs.Invariant.{KeptRows, Inv}
 use Rattle.histories.proofs.KeptBatches.{kept-offer, ids-pairs}
 use Rattle.histories.proofs.Same.{Same, same-refl, same-carried, loc-same, stored-same}
@@ -65,10 +66,15 @@ length-kept-offer s o g =
     ∙ ap length (ids-pairs us (takenBy s us) (length-place (s .slots) (s .slotMarks) us)) ∙ length-map us idOf
     ∙ length-updatesOf (o .ids) (o .stores) (o .lengths) (g .stores) (g .lengths)
 
+-- a row is kept for each update
+offered-long : (s : Store) (o : Offer) → Offered s o → length (normalRows (o .stores) (o .carried)) ≡ length (o .ids) * width
+offered-long s o g =
+    length-normalRows (o .stores) (o .carried) (g .carries ∙ ap (λ x. x * width) (sym (g .stores))) ∙ ap (λ x. x * width) (g .stores)
+
 -- an offer leaves the rows of ids
 pub offered-other : (n : ℕ) (o : Offer) (t : List ℕ) (i : ℕ) → i < n → part width (offeredColumn n o t) i ≡ part width t i
 unfolding offeredColumn
-offered-other n o t i h = putRows-other width (upFrom n (length (o .ids))) (o .carried) t i (upFrom-below n (length (o .ids)) i h)
+offered-other n o t i h = putRows-other width (upFrom n (length (o .ids))) (normalRows (o .stores) (o .carried)) t i (upFrom-below n (length (o .ids)) i h)
 
 -- two maps over numbers of which a test holds
 map-those : {A : Type 0} (p : ℕ → Bool) (f g : ℕ → A) (n i : ℕ) → ((j : ℕ) → p j ≡ true → f j ≡ g j) → map f (thoseFrom p n i) ≡ map g (thoseFrom p n i)
@@ -101,10 +107,10 @@ module _ (s t : Store) (e : Alike s t) (vs : Inv s) (vt : Inv t) where
     kept-rows = λ j a b.
         let l = length-kept-offer s o g in
         let few = g .few in
-        putRows-same width (s .ids + mostUpdates) (upFrom (s .ids) (length (o .ids))) (o .carried) (s .carried) (t .carried) j long-s long-t
-        (g .carries ∙ ap (λ x. x * width) (sym (length-upFrom (s .ids) (length (o .ids))))) (omega (arith, l))
+        putRows-same width (s .ids + mostUpdates) (upFrom (s .ids) (length (o .ids))) (normalRows (o .stores) (o .carried)) (s .carried) (t .carried) j long-s long-t
+        (offered-long s o g ∙ ap (λ x. x * width) (sym (length-upFrom (s .ids) (length (o .ids))))) (omega (arith, l))
         (inl (elem-upFrom (s .ids) (length (o .ids)) j a (omega (arith, l))))
-        ∙ ap (λ x. part width (putRows width (upFrom x (length (o .ids))) (o .carried) (t .carried)) j) (e .same .ids);
+        ∙ ap (λ x. part width (putRows width (upFrom x (length (o .ids))) (normalRows (o .stores) (o .carried)) (t .carried)) j) (e .same .ids);
   }
 
   -- ---- commit

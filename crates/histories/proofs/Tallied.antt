@@ -10,7 +10,7 @@ use Rattle.model.specs.Rebuild.{rowsIn, freshStore}
 use Rattle.model.specs.Step.{next, after, effect, refusalOf, refusal, unless}
 use Rattle.model.specs.Store.{newId, Store, Row, release, offer, commit, abandon, Call, fresh, rebuild, ask, truncation, report, withCarried}
 use Rattle.model.specs.Verdict.{ok, Verdict, refuse}
-use Rattle.model.proofs.Granted.{granted-rest}
+use Rattle.model.proofs.Granted.{granted-rest, rebuild-rows}
 use Rattle.model.proofs.Verdicts.{test-ok, then-ok}
 use Rattle.model.proofs.Sizes.{sized-sizes}
 use Rattle.histories.specs.Invariant.{Inv}
@@ -34,7 +34,7 @@ effect-tally s rs commit v e a = tally-carried _ (tally-commit s rs v a)
 effect-tally s rs abandon v e a = tally-abandon s rs v a
 effect-tally s rs fresh v e a = tally-rebuilt s [] tt
 effect-tally s rs (rebuild rows) v e a =
-    tally-carried _ (tally-rebuilt s (rowsIn rows) (rows-apart s [] [] 0 (rowsIn rows) (then-ok _ _ (granted-rest s (rebuild rows) e))))
+    tally-carried _ (tally-rebuilt s (rowsIn rows) (rows-apart s [] [] 0 (rowsIn rows) (rebuild-rows s rows e)))
 effect-tally s rs (ask q) v e a = a
 effect-tally s rs (truncation k t) v e a = record { of-ids = a .of-ids; of-slab = a .of-slab }
 effect-tally s rs (report k t) v e a = record { of-ids = a .of-ids; of-slab = a .of-slab }

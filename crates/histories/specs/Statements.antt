@@ -9,16 +9,17 @@ use lib.Dec.{eqb}
 use lib.ListN.{length, getD, set, take}
 use lib.Ieee.{Float}
 use Rattle.refusal.specs.Outcomes.{granted, refused}
-use Rattle.refusal.specs.Refusals.{noneFree, nothingToCut}
+use Rattle.refusal.specs.Refusals.{noneFree, nothingToCut, keyTooLong}
 use Rattle.list_parts.specs.Lists.{elem}
 use Rattle.list_parts.specs.Parts.{part}
 use Rattle.carried.specs.Carried.{width, rowsAt}
+use Rattle.keys.specs.Keys.{longIn, normalRows, allStored, isNormal}
 use Rattle.sizes.specs.Sizes.{slabFor}
 use Rattle.address.specs.Address.{unit, packing, slabs}
 use Rattle.marks.specs.Marks.{isFree, isTaken, countIf, tip}
 use Rattle.model.specs.Store.{Store, Update, put, free, Row, Offer, gave, placed, Answer}
 use Rattle.model.specs.Store.{Call, newId, release, offer, commit, abandon, fresh, rebuild, ask, truncation, report}
-use Rattle.model.specs.Verdict.{Verdict, ok, refuse}
+use Rattle.model.specs.Verdict.{Verdict, ok, refuse, testsFrom}
 use Rattle.model.specs.Tables.{capacities, locationOf, heldId, idsOf, locationsOf, isOpen}
 use Rattle.model.specs.Lending.{everyTable, sized}
 use Rattle.model.specs.Batches.{updatesIn}
@@ -150,12 +151,15 @@ pub data Distinct : List Row → Type 0 where
   none : Distinct []
   more : {r : Row} {rs : List Row} → elem (r .0) (idsOf rs) ≡ false → Distinct rs → Distinct (r ∷ rs)
 
--- the rows are the live ids, each once, in any order, with their locations; and each has its id's bytes, these one row after the other
+-- the rows are the live ids, each once, in any order, with their locations; and each has its id's collection and key: its bytes, one row after the
+-- other, are kept as the ids' are, and no key is too long
 pub record LiveRows (s : Store) (rs : List Row) (bytes : List ℕ) : Type 0 where
   pub once : Distinct rs
   pub only : (r : Row) → List·Memᴰ r rs → (heldId s (r .0) ≡ true) × (locationOf s (r .0) ≡ r .1)
   pub every : (i : ℕ) → heldId s i ≡ true → List·Memᴰ (i, locationOf s i) rs
-  pub carries : bytes ≡ rowsAt width (s .carried) (idsOf rs)
+  pub carries : normalRows (allStored (idsOf rs)) bytes ≡ rowsAt width (s .carried) (idsOf rs)
+  pub wide : length bytes ≡ length (idsOf rs) * width
+  pub short : testsFrom keyTooLong 0 (longIn (allStored (idsOf rs)) bytes) ≡ ok
 
 -- (Rebuilt.rebuild-agrees) a rebuild from the live rows, in any memory of the same capacities, is granted, and no later answer differs
 abbrev pub RebuildAgrees : Type 0
@@ -205,6 +209,13 @@ RebuildAgreesLent =
     memory .ids ≡ n → memory .slots ≡ m → fits everyTable memory ≡ true →
     (refusal (read memory) (rebuild (columns rs bytes)) ≡ ok) ×
     ((later : List Call) → answersIn (memoryAfter memory (rebuild (columns rs bytes))) later ≡ answers (state n m h) later)
+
+-- (NormalRows.reached-normal) each row of the column is in its normal form: no key over 64, and zeros behind it
+abbrev pub Normal : List ℕ → Type 0
+Normal t = (i : ℕ) → i * width + width ≤ length t → isNormal (part width t i) ≡ true
+
+abbrev pub ReachedNormal : Type 0
+ReachedNormal = (n m : ℕ) (h : List Call) → Normal (state n m h .carried)
 
 -- (LiveRows.rows-exist) the rows that a rebuild wants can always be had
 abbrev pub RowsExist : Type 0

@@ -1,3 +1,4 @@
 pub mod Stored
+pub mod Opened
 pub mod Files
 pub mod Examples

@@ -1,14 +1,15 @@
 -- The rows of a snapshot are the live rows of a store at rest, in the order of their ids. Assumes nothing.
-use mathlib.Core.Path.{_≡_, refl, sym, ap, _∙_}
-use mathlib.Core.Logic.{_⊎_, inl, inr, _≢_}
-use mathlib.Core.Bool.{Bool, true, false, not, cond, _&&_}
-use mathlib.Core.List.{List, [], _∷_, _++_, map, List·Memᴰ, List·Memᴰ·not-nil, List·Memᴰ·cases-cons, List·Memᴰ·head, List·Memᴰ·tail}
+use mathlib.Core.Path.{_≡_, refl, sym, ap, subst, _∙_}
+use mathlib.Core.Logic.{_⊎_, inl, inr}
+use mathlib.Core.Bool.{Bool, true, false, not, cond}
+use mathlib.Core.List.{List, [], _∷_, map, List·Memᴰ, List·Memᴰ·not-nil, List·Memᴰ·cases-cons, List·Memᴰ·head, List·Memᴰ·tail}
 use Prim.Native.Nat.{ℕ, zero, suc, _+_, _*_, _<_, _≤_}
 use native.Mathlib.Decide.{ℕ-discrete}
 use native.Mathlib.Omega.{arith}
 use lib.Dec.{ltb}
-use lib.ListN.{getD, length, drop, length-map}
+use lib.ListN.{length, drop}
 use borrow.Author.Tests.{eqb-false, not-true, ne-eqb, lt-ltb, ltb-true}
+use Rattle.refusal.specs.Refusals.{keyTooLong}
 use Rattle.refusal.proofs.Tests.{and-true, all, clash}
 use Rattle.list_parts.specs.Lists.{elem}
 use Rattle.list_parts.proofs.Lists.{elem-cases}
@@ -16,38 +17,41 @@ use Rattle.list_parts.proofs.Parts.{length-part-full}
 use Rattle.little_endian.specs.LittleEndian.{Bytes}
 use Rattle.little_endian.proofs.Laws.{take-bytes, drop-bytes}
 use Rattle.carried.specs.Carried.{width, rowsAt}
-use Rattle.snapshot_blocks.specs.Formats.{version1}
+use Rattle.keys.specs.Keys.{longIn, normalRows, allStored}
+use Rattle.snapshot_blocks.specs.Formats.{version2}
 use Rattle.snapshot_blocks.specs.Blocks.{Entry, entryFor, above, ascending}
 use Rattle.snapshot_blocks.specs.Valid.{Valid, All}
-use Rattle.snapshot_laws.specs.Reading.{carriedBy}
 use Rattle.model.specs.Snapshots.{isStored, thoseFrom, storedIds, entriesOf}
 use Rattle.model.specs.Store.{Store, Row}
-use Rattle.model.specs.Tables.{locationOf, heldId, inIds, idsOf, locationsOf}
+use Rattle.model.specs.Tables.{mostUpdates, locationOf, heldId, inIds, idsOf}
+use Rattle.model.specs.Verdict.{ok, testsFrom}
 use Rattle.model.proofs.Locations.{isLocation-says}
 use Rattle.model.proofs.Sizes.{sized-sizes}
 use Rattle.histories.specs.Invariant.{Inv}
-use Rattle.histories.specs.Statements.{Distinct, none, more, AtRest, LiveRows}
+use Rattle.histories.specs.Statements.{Distinct, none, more, AtRest, LiveRows, Normal}
+use Rattle.histories.proofs.Brought.{broughtAt, brought-wide, brought-short, brought-kept}
 
 -- ---- numbers of which a test holds
 
-those-bounds : (p : ℕ → Bool) (n i j : ℕ) → elem j (thoseFrom p n i) ≡ true → i ≤ j
+those-bounds : (p : ℕ → Bool) (n i j : ℕ) → elem j (thoseFrom p n i) ≡ true → (i ≤ j) × (j < i + n)
 unfolding thoseFrom
 those-bounds p zero i j e = clash (sym e)
 those-bounds p (suc n) i j e = go (p i) e (λ h. those-bounds p n (suc i) j h)
   where
-    go : (b : Bool) → elem j (cond b (i ∷ thoseFrom p n (suc i)) (thoseFrom p n (suc i))) ≡ true → (elem j (thoseFrom p n (suc i)) ≡ true → suc i ≤ j) → i ≤ j
+    go : (b : Bool) → elem j (cond b (i ∷ thoseFrom p n (suc i)) (thoseFrom p n (suc i))) ≡ true → (elem j (thoseFrom p n (suc i)) ≡ true → (suc i ≤ j) × (j < suc i + n))
+        → (i ≤ j) × (j < i + suc n)
     go true h f = first (elem-cases j i (thoseFrom p n (suc i)) h)
       where
-        first : (j ≡ i) ⊎ (elem j (thoseFrom p n (suc i)) ≡ true) → i ≤ j
-        first (inl q) = omega arith
-        first (inr q) = let k = f q in omega arith
-    go false h f = let k = f h in omega arith
+        first : (j ≡ i) ⊎ (elem j (thoseFrom p n (suc i)) ≡ true) → (i ≤ j) × (j < i + suc n)
+        first (inl q) = (omega arith, omega arith)
+        first (inr q) = let k = f q in (omega (arith, k .0), omega (arith, k .1))
+    go false h f = let k = f h in (omega (arith, k .0), omega (arith, k .1))
 
 below-those : (p : ℕ → Bool) (n i j : ℕ) → j < i → elem j (thoseFrom p n i) ≡ false
 below-those p n i j h = go (elem j (thoseFrom p n i)) refl
   where
     go : (b : Bool) → elem j (thoseFrom p n i) ≡ b → b ≡ false
-    go true e = let k = those-bounds p n i j e in absurd (omega arith)
+    go true e = let k = those-bounds p n i j e in absurd (omega (arith, k .0))
     go false e = refl
 
 -- what holds of each
@@ -138,12 +142,12 @@ module _ (s : Store) where
 
 -- ---- of a store at rest
 
-module _ (s : Store) (v : Inv s) (a : AtRest s) where
+module _ (s : Store) (v : Inv s) (a : AtRest s) (w : Normal (s .carried)) where
   abbrev pub rows : List Row
   rows = map (rowOf s) (storedIds s)
 
   abbrev pub bytes : List ℕ
-  bytes = rowsAt width (s .carried) (storedIds s)
+  bytes = broughtAt (s .carried) (storedIds s)
 
   held-stored : (i : ℕ) → heldId s i ≡ true → isStored s i ≡ true
   held-stored i h = all h (ap not (ne-eqb (locationOf s i) 0 (a .stored i h)))
@@ -151,30 +155,38 @@ module _ (s : Store) (v : Inv s) (a : AtRest s) where
   held-lt : (i : ℕ) → heldId s i ≡ true → i < s .ids
   held-lt i h = ltb-true i (s .ids) (and-true (ltb 0 i) _ (and-true (inIds s i) _ h .0) .1)
 
+  stored-below : (i : ℕ) → elem i (storedIds s) ≡ true → i < s .ids + mostUpdates
+  stored-below i e = omega (arith, those-bounds (isStored s) (s .ids) 0 i e .1)
+
   pub stored-rows : LiveRows s rows bytes
   stored-rows = record {
     once = distinct-those s (isStored s) (s .ids) 0;
     only = λ r m. let h = row-holds s (isStored s) (s .ids) 0 r m in (and-true (heldId s (r .0)) _ (h .0) .0, h .1);
     every = λ i h. let k = held-lt i h in row-there s (isStored s) (s .ids) 0 i (held-stored i h) (omega arith) (omega arith);
-    carries = ap (rowsAt width (s .carried)) (sym (ids-rows s (storedIds s)));
+    carries = subst (λ is. normalRows (allStored is) bytes ≡ rowsAt width (s .carried) is) (sym (ids-rows s (storedIds s)))
+        (brought-kept (s .ids + mostUpdates) (s .carried) (sized-sizes s (v .is-sized) .carried) w (storedIds s) stored-below);
+    wide = brought-wide (s .ids + mostUpdates) (s .carried) (sized-sizes s (v .is-sized) .carried) w (storedIds s) stored-below
+        ∙ ap (λ is. length is * width) (sym (ids-rows s (storedIds s)));
+    short = subst (λ is. testsFrom keyTooLong 0 (longIn (allStored is) bytes) ≡ ok) (sym (ids-rows s (storedIds s)))
+        (brought-short (s .ids + mostUpdates) (s .carried) (sized-sizes s (v .is-sized) .carried) w (storedIds s) stored-below keyTooLong);
   }
 
   -- ---- every row can be written
 
-  pub stored-valid : Bytes (s .carried) → All (Valid version1) (entriesOf s)
-  stored-valid b = all-those (Valid version1) (entry s) (isStored s) (s .ids) 0 (λ i h.
+  pub stored-valid : Bytes (s .carried) → All (Valid version2) (entriesOf s)
+  stored-valid b = all-those (Valid version2) (entry s) (isStored s) (s .ids) 0 (λ i h.
       let t = and-true (heldId s i) _ h in
       let k = held-lt i (t .0) in
       let z = sized-sizes s (v .is-sized) in
       let top = z .range .ids-to in
-      let long : i * 8 + 8 ≤ length (s .carried) = omega (arith, z .carried) in
+      let long : i * width + width ≤ length (s .carried) = omega (arith, z .carried) in
       let l = isLocation-says (s .slots) (locationOf s i) (v .good .located i (eqb-false (locationOf s i) 0 (not-true _ (t .1))) .range) in
       record {
         id-fits = omega (arith, k, top);
         location-fits = omega (arith, l .high);
         wide = length-part-full width (s .carried) i long;
-        bytes = take-bytes 8 (drop (i * 8) (s .carried)) (drop-bytes (i * 8) (s .carried) b);
-        carries = refl;
+        bytes = take-bytes width (drop (i * width) (s .carried)) (drop-bytes (i * width) (s .carried) b);
+        carries = ap not (w i long);
       })
 
   pub stored-ascending : ascending (entriesOf s) ≡ true

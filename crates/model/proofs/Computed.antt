@@ -5,10 +5,12 @@ use lib.Ieee.{div, le, lt, eq, ofInt, toUnsigned, round, units, odd, size, span,
 use Rattle.sizes.specs.Sizes.{slabSizes, fieldWidth, firstFit, slabFor, sizeOf}
 use Rattle.address.specs.Address.{badSlots}
 use Rattle.carried.specs.Carried.{putRow, putRows, upFrom, keptRow, committed}
+use Rattle.little_endian.specs.LittleEndian.{word, getAt}
+use Rattle.keys.specs.Keys.{keyIsLong, normal, longIn, normalRows}
 use Rattle.snapshot_blocks.specs.Formats.{perBlock}
 use Rattle.snapshot_blocks.specs.Files.{fileLength}
 use Rattle.fragmentation.specs.Cutoff.{isRatio, cutoff}
-use Rattle.model.specs.Verdict.{_⨾_, test}
+use Rattle.model.specs.Verdict.{_⨾_, test, testsFrom, earlier}
 use Rattle.model.specs.Tables.{badIds}
 use Rattle.model.specs.Ids.{bumpPending}
 use Rattle.model.specs.Batches.{room}
@@ -21,5 +23,5 @@ use Rattle.model.specs.Step.{refusalOf, refusal, grant, effect, answer, 
 use Rattle.model.specs.Cases.{allHold, cases}
 
 pub cases-hold : allHold cases ≡ true
-unfolding cases _⨾_ test answer next refusal refusalOf askRefusal reply lentFit grant effect badIds badSlots slabFor firstFit slabSizes fieldWidth sizeOf isRatio cutoff div le lt eq ofInt toUnsigned round units odd size span climb room bumpPending movesFrom offeredColumn committedColumn rebuiltColumn putRow putRows upFrom keptRow committed thoseFrom fileLength perBlock
+unfolding cases _⨾_ test answer next refusal refusalOf askRefusal reply lentFit grant effect badIds badSlots slabFor firstFit slabSizes fieldWidth sizeOf isRatio cutoff div le lt eq ofInt toUnsigned round units odd size span climb room bumpPending movesFrom offeredColumn committedColumn rebuiltColumn putRow putRows upFrom keptRow committed testsFrom earlier keyIsLong longIn normal normalRows getAt word thoseFrom fileLength perBlock
 cases-hold = refl

@@ -11,18 +11,19 @@ use Rattle.refusal.proofs.Tests.{and-true}
 use Rattle.address.specs.Address.{slabs}
 use Rattle.model.specs.Batches.{updates, updatesIn, room}
 use Rattle.carried.specs.Carried.{width}
-use Rattle.model.specs.Columns.{carriesFor}
+use Rattle.model.specs.Columns.{carriesFor, beforeKeys}
 use Rattle.model.specs.Ids.{nextId}
 use Rattle.model.specs.Lending.{everyTable, lendingOf}
 use Rattle.model.specs.Lent.{fits}
 use Rattle.model.specs.Memory.{Memory, read}
+use Rattle.model.specs.Rebuild.{rowsIn, rows}
 use Rattle.model.specs.Step.{refusalOf, refusal}
-use Rattle.model.specs.Store.{Store, Offer, Call, newId, offer}
+use Rattle.model.specs.Store.{Store, Offer, Rows, Call, newId, offer, rebuild}
 use Rattle.model.specs.Tables.{mostUpdates, isOpen}
 use Rattle.model.specs.Tests.{shape, lists, asLong}
 use Rattle.model.specs.Verdict.{ok, refuse, test, _⨾_}
 use Rattle.model.proofs.Sizes.{Sizes, sizes, fits-read, shape-read}
-use Rattle.model.proofs.Verdicts.{test-ok, first-ok, then-ok}
+use Rattle.model.proofs.Verdicts.{test-ok, first-ok, then-ok, earlier-ok}
 
 -- ---- every call
 
@@ -94,6 +95,17 @@ offer-granted s o e =
       carries = eqb-true _ _ (b .1);
       shut = shut-is s (test-ok _ _ _ (first-ok _ _ e₂));
       few = ltb-false mostUpdates (length (o .ids)) (test-ok _ _ _ (first-ok _ _ e₃));
-      fit = first-ok _ _ e₄;
+      fit = earlier-ok beforeKeys _ _ (first-ok _ _ e₄) .0;
       enough = then-ok _ _ e₄;
     }
+
+-- ---- rebuild
+
+pub rebuild-rows : (s : Store) (rs : Rows) → refusal s (rebuild rs) ≡ ok → rows s [] [] 0 (rowsIn rs) ≡ ok
+unfolding refusalOf
+rebuild-rows s rs e = earlier-ok (λ n. true) _ _ (then-ok _ _ (granted-rest s (rebuild rs) e)) .0
+
+pub rebuild-carries : (s : Store) (rs : Rows) → refusal s (rebuild rs) ≡ ok → length (rs .carried) ≡ length (rs .ids) * width
+unfolding refusalOf
+rebuild-carries s rs e =
+    eqb-true _ _ (and-true (asLong (rs .ids) (rs .locations)) (carriesFor (rs .ids) (rs .carried)) (lists-ok _ (first-ok _ _ (granted-rest s (rebuild rs) e))) .1)

@@ -21,3 +21,4 @@ pub mod ReadRelease
 pub mod Read
 pub mod Lent
 pub mod Snapshots
+pub mod Keyed

@@ -2,13 +2,13 @@
 -- of a cut. Assumes nothing.
 use mathlib.Core.Bool.{Bool, true, false, _&&_}
 use mathlib.Core.List.{List, [], _∷_, _++_, map}
-use Prim.Native.Nat.{ℕ}
+use Prim.Native.Nat.{ℕ, _-_}
 use lib.Dec.{eqb}
-use lib.ListN.{replicate}
+use lib.ListN.{length, replicate}
 use lib.IntN.{negsuc}
 use lib.Ieee.{Float, fin}
 use Rattle.refusal.specs.Outcomes.{Values, granted, refused}
-use Rattle.refusal.specs.Refusals.{noneFree}
+use Rattle.refusal.specs.Refusals.{noSuchId, repeatedId, noneFree, repeatedLocation, keyTooLong}
 use Rattle.address.specs.Address.{packing}
 use Rattle.fragmentation.specs.Cutoff.{cutoff}
 use Rattle.model.specs.Store.{Store, Call, newId, release, offer, commit, rebuild, ask, lookup, counters, defrag, snapshotLength, keep, cut, Grant, gave, found}
@@ -55,19 +55,41 @@ abbrev pub allHold : List Case → Bool
 allHold [] = true
 allHold (c ∷ cs) = same (c .given) (c .written) && allHold cs
 
--- a row that carries this collection, below 256, and rows that do
-abbrev pub collection : ℕ → List ℕ
-collection n = n ∷ replicate 7 0
+-- a row as it is brought, with a collection, below 256, a key, and bytes behind it that are not looked at; and as it is kept
+abbrev pub bringing : ℕ → List ℕ → List ℕ
+bringing n key = (n ∷ replicate 7 0) ++ ((length key ∷ replicate 7 0) ++ (key ++ replicate (64 - length key) 255))
 
-abbrev pub collections : List ℕ → List ℕ
-collections is = concat (map collection is)
+abbrev pub keeping : ℕ → List ℕ → List ℕ
+keeping n key = (n ∷ replicate 7 0) ++ (length key ∷ (key ++ replicate (71 - length key) 0))
 
--- a batch of Stores of three bytes, each in the collection of its id's number; a batch of Frees
+abbrev pub longest : List ℕ
+longest = replicate 64 3
+
+-- a row whose key is said to be of 65 bytes
+abbrev pub tooMuch : List ℕ
+tooMuch = replicate 8 0 ++ ((65 ∷ replicate 7 0) ++ replicate 64 1)
+
+-- rows, each in the collection of its id's number, with this number and 7 as its key
+abbrev pub rowsFor : List ℕ → List ℕ
+rowsFor is = concat (map (λ (i : ℕ). bringing i (i ∷ 7 ∷ [])) is)
+
+-- a batch of Stores of three bytes; a batch of Frees, each with a key that would be too long
 abbrev pub stores : List ℕ → Call
-stores is = offer (record { ids = is; stores = map (λ (i : ℕ). true) is; lengths = map (λ (i : ℕ). 3) is; carried = collections is; placed = is })
+stores is = offer (record { ids = is; stores = map (λ (i : ℕ). true) is; lengths = map (λ (i : ℕ). 3) is; carried = rowsFor is; placed = is })
 
 abbrev pub frees : List ℕ → Call
-frees is = offer (record { ids = is; stores = map (λ (i : ℕ). false) is; lengths = is; carried = collections is; placed = is })
+frees is = offer (record { ids = is; stores = map (λ (i : ℕ). false) is; lengths = is; carried = concat (map (λ (i : ℕ). tooMuch) is); placed = is })
+
+-- id 1 stored with an empty key, and then Stores of n bytes, each with a key that is too long
+abbrev pub storesLong : List ℕ → ℕ → Call
+storesLong is n =
+    offer (record {
+      ids = 1 ∷ is;
+      stores = true ∷ map (λ (i : ℕ). true) is;
+      lengths = 3 ∷ map (λ (i : ℕ). n) is;
+      carried = bringing 1 [] ++ concat (map (λ (i : ℕ). tooMuch) is);
+      placed = 1 ∷ is;
+    })
 
 abbrev pub threeQuarters : Float
 threeQuarters = fin false 3 (negsuc 1)
@@ -129,7 +151,7 @@ cases =
     -- the quotient is rounded before it is cut: 9 / r is 10, not 9 and a fraction, so that nothing is listed
     case (answer (state 11 10 nineOfTen) (defragOf aboveNineTenths 10)) (granted (moves [])) ∷
     -- a committed Store is found
-    case (answer afterWhole (ask (lookup 6 (collection 0)))) (granted (found (packing 0 5) (collection 6))) ∷
+    case (answer afterWhole (ask (lookup 6 (keeping 0 [])))) (granted (found (packing 0 5) (keeping 6 (6 ∷ 7 ∷ [])))) ∷
     -- and has a row in the snapshot, of which there are three: one block
     case (answer afterWhole (ask snapshotLength)) (granted (gave 512)) ∷
     -- its counters: 0 was held with the first id, and five ids and slots were freed
@@ -139,6 +161,17 @@ cases =
     -- a slot freed at commit is pending: the next batch takes another
     case (answer (state 9 4 stored3) (stores (1 ∷ []))) (granted (placed (packing 0 3 ∷ []))) ∷
     case (answer (state 9 4 stored3) (stores (1 ∷ 3 ∷ []))) (refused noneFree 0) ∷
+    -- request 2026-06: a key over 64 is refused after 8 and 9, before 2; a Free's was not looked at
+    case (answer (state 9 4 stored3) (storesLong (3 ∷ []) 3)) (refused keyTooLong 1) ∷
+    case (answer (state 9 4 stored3) (storesLong (4 ∷ []) 3)) (refused noSuchId 1) ∷
+    case (answer (state 9 4 stored3) (storesLong (1 ∷ []) 3)) (refused repeatedId 1) ∷
+    case (answer (state 9 4 stored3) (storesLong (3 ∷ []) 17179869173)) (refused keyTooLong 1) ∷
+    -- a key of 64 bytes is kept whole
+    case (answer (state 9 4 (rebuild (columns ((1, packing 0 0) ∷ []) (bringing 9 longest)) ∷ [])) (ask (lookup 1 (keeping 0 []))))
+    (granted (found (packing 0 0) (keeping 9 longest))) ∷
+    -- per row of a rebuild after the others
+    case (answer (state 9 4 []) (rebuild (columns ((1, packing 0 0) ∷ (3, packing 0 1) ∷ []) (bringing 1 [] ++ tooMuch)))) (refused keyTooLong 1) ∷
+    case (answer (state 9 4 []) (rebuild (columns ((1, packing 0 0) ∷ (3, packing 0 0) ∷ []) (bringing 1 [] ++ tooMuch)))) (refused repeatedLocation 1) ∷
     -- after a rebuild 0 is free, and is not issued
-    case (answer (state 9 4 (rebuild (columns ((1, packing 0 0) ∷ (3, packing 0 1) ∷ []) (collections (1 ∷ 3 ∷ []))) ∷ [])) newId) (granted (gave 2)) ∷
+    case (answer (state 9 4 (rebuild (columns ((1, packing 0 0) ∷ (3, packing 0 1) ∷ []) (rowsFor (1 ∷ 3 ∷ []))) ∷ [])) newId) (granted (gave 2)) ∷
     []

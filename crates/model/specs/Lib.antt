@@ -9,6 +9,7 @@ pub mod Rebuild
 pub mod Defrag
 pub mod Truncation
 pub mod Columns
+pub mod Keyed
 pub mod Snapshots
 pub mod Questions
 pub mod Step

@@ -1,11 +1,11 @@
--- Request 2026-01: the rows that a snapshot of the store has, and its bytes. Assumes nothing.
+-- Requests 2026-01 and 2026-06: the rows that a snapshot of the store has, and its bytes, which are of version 2. Assumes nothing.
 use mathlib.Core.Bool.{Bool, not, cond, _&&_}
 use mathlib.Core.List.{List, [], _∷_, map}
 use Prim.Native.Nat.{ℕ, zero, suc}
 use lib.Dec.{eqb}
 use lib.ListN.{length}
 use Rattle.refusal.specs.Refusals.{tablesDisagree}
-use Rattle.snapshot_blocks.specs.Formats.{version1}
+use Rattle.snapshot_blocks.specs.Formats.{version2}
 use Rattle.snapshot_blocks.specs.Blocks.{Entry, entryFor}
 use Rattle.snapshot_blocks.specs.Files.{fileOf, fileLength}
 use Rattle.carried.specs.Carried.{width}
@@ -31,10 +31,10 @@ entriesOf s = map (entryFor width (s .locations) (s .carried)) (storedIds s)
 
 -- the file, and its length
 abbrev pub snapshotOf : Store → List ℕ
-snapshotOf s = fileOf version1 (entriesOf s)
+snapshotOf s = fileOf version2 (entriesOf s)
 
 abbrev pub snapshotBytes : Store → ℕ
-snapshotBytes s = fileLength version1 (length (storedIds s))
+snapshotBytes s = fileLength version2 (length (storedIds s))
 
 -- per row, of which i is the index: whether its id's location is bad
 unfoldable pub snapshotRows : (ℕ → Bool) → ℕ → List ℕ → Verdict

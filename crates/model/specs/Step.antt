@@ -17,7 +17,7 @@ use Rattle.model.specs.Ids.{nextId, afterNewId, afterRelease}
 use Rattle.model.specs.Batches.{updatesIn, updates, room, takenBy, afterOffer, commitRows, afterCommit, abandonRows, afterAbandon}
 use Rattle.model.specs.Rebuild.{rowsIn, rows, rebuilt, freshStore}
 use Rattle.model.specs.Truncation.{isTarget, highMark, cutAt, keeps, raise, withHigh}
-use Rattle.model.specs.Columns.{carriesFor, offeredColumn, committedColumn, rebuiltColumn}
+use Rattle.model.specs.Columns.{carriesFor, withOfferedKeys, withRebuiltKeys, offeredColumn, committedColumn, rebuiltColumn}
 use Rattle.model.specs.Questions.{askRefusal, reply}
 
 -- ---- refusals
@@ -31,11 +31,11 @@ refusalOf s newId = noneOpen s ⨾ test (leb (s .ids) (nextId s)) noneFree 0
 refusalOf s release = noneOpen s
 refusalOf s (offer o) =
     lists (asLong (o .ids) (o .stores) && asLong (o .ids) (o .lengths) && asLong (o .ids) (o .placed) && carriesFor (o .ids) (o .carried)) ⨾ noneOpen s ⨾
-    test (ltb mostUpdates (length (o .ids))) tooMany 0 ⨾ updates s [] 0 (updatesIn o) ⨾ room (s .slots) (s .slotMarks) (updatesIn o) slabs 0
+    test (ltb mostUpdates (length (o .ids))) tooMany 0 ⨾ withOfferedKeys o (updates s [] 0 (updatesIn o)) ⨾ room (s .slots) (s .slotMarks) (updatesIn o) slabs 0
 refusalOf s commit = oneOpen s ⨾ commitRows s 0 (kept s)
 refusalOf s abandon = oneOpen s ⨾ abandonRows s 0 (kept s)
 refusalOf s fresh = ok
-refusalOf s (rebuild rs) = lists (asLong (rs .ids) (rs .locations) && carriesFor (rs .ids) (rs .carried)) ⨾ rows s [] [] 0 (rowsIn rs)
+refusalOf s (rebuild rs) = lists (asLong (rs .ids) (rs .locations) && carriesFor (rs .ids) (rs .carried)) ⨾ withRebuiltKeys rs (rows s [] [] 0 (rowsIn rs))
 refusalOf s (ask q) = askRefusal s q
 refusalOf s (truncation k t) = slabRefusal s k t
 refusalOf s (report k t) = slabRefusal s k t ⨾ test (keeps (cutAt k (highMark s k) t (slabTip s k))) nothingToCut 0

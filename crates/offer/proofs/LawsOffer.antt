@@ -1,27 +1,28 @@
 -- Laws of an offer: its refusals in their order, each told by what the code tests, and what it leaves where it is refused and where it is granted.
 -- Assumes nothing.
-use mathlib.Core.Bool.{Bool, true, false, not, _&&_}
+use mathlib.Core.Bool.{Bool, true, false, not, cond, _&&_, _||_}
 use mathlib.Core.List.{List, [], _++_, append-nil}
 use mathlib.Core.Path.{_≡_, refl, sym, ap, _∙_}
-use Prim.Native.Nat.{ℕ, _+_, _*_, _/_, _≤_, _<_}
+use Prim.Native.Nat.{ℕ, _+_, _*_, _≤_, _<_}
 use native.Mathlib.Numerals.{add-one}
 use native.Mathlib.Omega.{arith}
-use lib.Dec.{ltb}
+use lib.Dec.{eqb, ltb}
 use lib.ListN.{length, getD, take, drop, set}
 use lib.Seq.{sets, drop-length}
-use borrow.Author.Tests.{eqb-true, not-true, not-false, lt-ltb, le-ltb}
-use Rattle.refusal.specs.Refusals.{wrongShape, batchOpen, tooMany}
+use borrow.Author.Tests.{eqb-true, eq-eqb, ne-eqb, not-true, not-false, lt-ltb, le-ltb}
+use Rattle.refusal.specs.Refusals.{wrongShape, noSuchId, repeatedId, batchOpen, tooMany, keyTooLong}
 use Rattle.refusal.specs.declared.Refusal.{Refusal}
 use Rattle.refusal.specs.declared.Judged.{Judged}
 use Rattle.refusal.specs.declared.Judged.the-variants as J
 use Rattle.refusal.proofs.Tests.{and-true}
 use Rattle.carried.specs.Carried.{width, putRows, upFrom}
+use Rattle.keys.specs.Keys.{normalRows}
 use Rattle.address.specs.Address.{badSlots, slabs}
 use Rattle.model.specs.Batches.{updatesIn, updates, room, takenBy}
 use Rattle.model.specs.Outcomes.{over}
 use Rattle.model.specs.Memory.{Memory, read, keptIdsAt, keptLocationsAt}
 use Rattle.model.specs.MemoryAfter.{Slots, slotsOf, takeSlots, keptWords, memoryEffect, memoryAfter}
-use Rattle.model.specs.Columns.{carriesFor, offeredColumn}
+use Rattle.model.specs.Columns.{carriesFor, beforeKeys, withOfferedKeys, offeredColumn}
 use Rattle.model.specs.Lending.{everyTable}
 use Rattle.model.specs.Lent.{fits}
 use Rattle.model.specs.Step.{refusalOf, refusal, grant, answer}
@@ -29,15 +30,16 @@ use Rattle.model.specs.Tests.{asLong}
 use Rattle.model.specs.Store.{Offer, offer, placed}
 use Rattle.refusal.specs.Outcomes.{granted, refused}
 use Rattle.model.specs.Tables.{mostUpdates}
-use Rattle.model.specs.Verdict.{Verdict, ok, refuse, test, _⨾_, judgedVerdict}
+use Rattle.model.specs.Verdict.{Verdict, ok, refuse, test, earlier, _⨾_, judgedVerdict}
 use Rattle.model.proofs.Batches.{length-updatesOf, length-place}
+use Rattle.model.proofs.Keyed.{first-long}
 use Rattle.model.proofs.Read.{slots-fit}
 use Rattle.model.proofs.Sizes.{shape-read, fits-range, fits-slot-marks}
 use Rattle.model.proofs.Steps.{Fits}
-use Rattle.model.proofs.Verdicts.{tests-join}
+use Rattle.model.proofs.Verdicts.{tests-join, earlier-alone}
 use Rattle.offer_updates.specs.Kinds.{noKinds, kindsOf, checkIn}
 use Rattle.offer.specs.Outcome.{offerLeaves}
-use Rattle.offer.specs.Verdicts.{offerFits}
+use Rattle.offer.specs.Verdicts.{offerFits, keysIn}
 use Rattle.offer_places.specs.Places.{slotsIn, placeIn}
 use Rattle.offer_room.specs.Room.{noneAsked, tallied, roomIn}
 use Rattle.offer.proofs.LawsPlaces.{sets-whole, place-read}
@@ -52,6 +54,48 @@ seq-stop o v w r e p = let q : refuse (r .number) (r .index) ≡ v = sym (ap jud
 pub seq-on : (o : Judged) (v w : Verdict) → judgedVerdict o ≡ v → o ≡ J.Passed → w ≡ (v ⨾ w)
 unfolding _⨾_
 seq-on o v w e p = let q : ok ≡ v = sym (ap judgedVerdict p) ∙ e in ap (λ x. x ⨾ w) q
+
+-- ---- two orders of tests made one: whether a refusal n of update i comes before that of the key of update k
+module _ (n i k : ℕ) where
+  abbrev Decides : Bool
+  Decides = ltb i k || (eqb i k && beforeKeys n)
+
+  pub decides-other : (i ≡ k → ⊥) → ltb i k ≡ Decides
+  decides-other h = rw (ne-eqb i k h) (by (ltb i k))
+    where
+      by : (b : Bool) → b ≡ (b || false)
+      by true = refl
+      by false = refl
+
+  pub decides-held : i ≡ k → n ≡ noSuchId → true ≡ Decides
+  decides-held e p = rw (le-ltb i k (omega arith), eq-eqb i k e, eq-eqb n noSuchId p)
+
+  pub decides-seen : i ≡ k → (n ≡ noSuchId → ⊥) → eqb n repeatedId ≡ Decides
+  decides-seen e p = rw (le-ltb i k (omega arith), eq-eqb i k e, ne-eqb n noSuchId p)
+
+module _ (j : Judged) (k n : ℕ) where
+  abbrev Keyed : Verdict
+  Keyed = earlier beforeKeys (judgedVerdict j) (test (ltb k n) keyTooLong k)
+
+  pub keys-short : n ≤ k → judgedVerdict j ≡ Keyed
+  unfolding test
+  keys-short h = rw (le-ltb k n h) (earlier-alone beforeKeys (judgedVerdict j))
+
+  module _ (h : k < n) where
+    pub keys-alone : j ≡ J.Passed → refuse keyTooLong k ≡ Keyed
+    unfolding earlier test
+    keys-alone p = rw (p, lt-ltb k n h)
+
+    module _ (r : Refusal) (b : Bool) (p : j ≡ J.Refused r) (e : b ≡ Decides (r .number) (r .index) k) where
+      both-refuse : Keyed ≡ cond b (refuse (r .number) (r .index)) (refuse keyTooLong k)
+      unfolding earlier test
+      both-refuse = rw (p, lt-ltb k n h, e)
+
+      pub keys-after : b ≡ true → refuse (r .number) (r .index) ≡ Keyed
+      keys-after t = sym (both-refuse ∙ ap (λ x. cond x (refuse (r .number) (r .index)) (refuse keyTooLong k)) t)
+
+      pub keys-before : b ≡ false → refuse keyTooLong k ≡ Keyed
+      keys-before t = sym (both-refuse ∙ ap (λ x. cond x (refuse (r .number) (r .index)) (refuse keyTooLong k)) t)
 
 -- ---- what an offer leaves
 module _ (m : Memory) (o : Offer) where
@@ -94,7 +138,7 @@ module _ (m : Memory) (o : Offer) where
   -- the chain of tests, the first of them on lengths
   chain : refusal (read m) (offer o)
       ≡ (test (not Fit) wrongShape 0 ⨾ test (ltb 0 (getD (m .batch) 0 0)) batchOpen 0 ⨾ test (ltb mostUpdates (length (o .ids))) tooMany 0 ⨾
-      updates (read m) [] 0 (updatesIn o) ⨾ room (read m .slots) (read m .slotMarks) (updatesIn o) slabs 0)
+      withOfferedKeys o (updates (read m) [] 0 (updatesIn o)) ⨾ room (read m .slots) (read m .slotMarks) (updatesIn o) slabs 0)
   unfolding offerFits refusal refusalOf read
   chain =
       (λ i. shape-read (offer o) m i ⨾ test (not lists-long) wrongShape 0 ⨾ rest)
@@ -102,7 +146,7 @@ module _ (m : Memory) (o : Offer) where
     where
       rest : Verdict
       rest = test (ltb 0 (getD (m .batch) 0 0)) batchOpen 0 ⨾ test (ltb mostUpdates (length (o .ids))) tooMany 0 ⨾
-          updates (read m) [] 0 (updatesIn o) ⨾ room (read m .slots) (read m .slotMarks) (updatesIn o) slabs 0
+          withOfferedKeys o (updates (read m) [] 0 (updatesIn o)) ⨾ room (read m .slots) (read m .slotMarks) (updatesIn o) slabs 0
 
   -- the test of the lengths, and whether it was passed
   pub fits-told : (f : Bool) → f ≡ Fit → not f ≡ false → Fit ≡ true
@@ -133,12 +177,20 @@ module _ (m : Memory) (o : Offer) where
       record { fit = a .0; stores = eqb-true _ _ (d .0); lengths = eqb-true _ _ (d .1); list = eqb-true _ _ (b .1); rows = eqb-true _ _ (w .1) }
 
   -- the column with the rows that were offered, as many as there are updates
-  column : Fit ≡ true → (t : List ℕ) → t ≡ putRows width (upFrom (m .ids) (length (o .carried) / width)) (o .carried) (m .carried) → t ≡ offeredColumn (m .ids) o (m .carried)
+  abbrev KeptRows : List ℕ
+  KeptRows = putRows width (upFrom (m .ids) (length (o .stores))) (normalRows (o .stores) (o .carried)) (m .carried)
+
+  abbrev pub Keeps : List ℕ → Type 0
+  Keeps t = t ≡ cond (eqb (length (o .carried)) (length (o .stores) * width)) KeptRows (m .carried)
+
+  rows-many : Fit ≡ true → length (o .carried) ≡ length (o .stores) * width
+  rows-many e = let s = shaped e in s .rows ∙ ap (λ n. n * width) (sym (s .stores))
+
+  column : Fit ≡ true → (t : List ℕ) → Keeps t → t ≡ offeredColumn (m .ids) o (m .carried)
   unfolding offeredColumn
   column e t p =
-      let r = shaped e .rows in
-      let n : length (o .carried) / width ≡ length (o .ids) = omega arith in
-      p ∙ ap (λ k. putRows width (upFrom (m .ids) k) (o .carried) (m .carried)) n
+      p ∙ ap (λ b. cond b KeptRows (m .carried)) (eq-eqb _ _ (rows-many e))
+      ∙ ap (λ n. putRows width (upFrom (m .ids) n) (normalRows (o .stores) (o .carried)) (m .carried)) (shaped e .stores)
 
   good : Fit ≡ true → badSlots (m .slots) ≡ false
   good e = fits-range everyTable m (shaped e .fit) .slots-good
@@ -167,27 +219,31 @@ module _ (m : Memory) (o : Offer) where
     fit = slots-fit everyTable m (shaped e .fit) refl refl
 
     pub refused-rest : refusal (read m) (offer o)
-        ≡ (checkIn m [] 0 (o .ids) (kindsOf (o .stores) (o .lengths)) ⨾ roomIn (m .slots) (m .slotMarks) (m .tallies) (tallied noneAsked (kindsOf (o .stores) (o .lengths))) slabs 0)
+        ≡ (earlier beforeKeys (checkIn m [] 0 (o .ids) (kindsOf (o .stores) (o .lengths))) (keysIn (o .stores) (o .carried)) ⨾
+        roomIn (m .slots) (m .slotMarks) (m .tallies) (tallied noneAsked (kindsOf (o .stores) (o .lengths))) slabs 0)
     unfolding test _⨾_ read
     refused-rest =
         let s = shaped e in
         let w : ltb 0 (getD (m .batch) 0 0) ≡ false = le-ltb 0 (getD (m .batch) 0 0) (omega (arith, z)) in
         let u = sym (check-read m (good e) (fits-slot-marks everyTable m (s .fit)) [] 0 (o .ids) (o .stores) (o .lengths)) in
         let r = sym (room-read (m .slots) (slotsOf m) fit (good e) (o .ids) (o .stores) (o .lengths) (s .stores) (s .lengths) few slabs 0 (omega arith)) in
-        chain ∙ rw (e, w, le-ltb mostUpdates (length (o .ids)) few) (λ i. u i ⨾ r i)
+        let k = first-long (o .stores) (o .carried) _ refl (rows-many e) in
+        chain ∙ rw (e, w, le-ltb mostUpdates (length (o .ids)) few) (λ i. earlier beforeKeys (u i) (k i) ⨾ r i)
 
     module _ (ks : List ℕ) (κ : ks ≡ kindsOf (o .stores) (o .lengths)) where
       pub rest-told : (v : Verdict)
-          → v ≡ (checkIn (unkept m) [] 0 (o .ids) ks ⨾ roomIn (m .slots) (m .slotMarks) (m .tallies) (tallied noneAsked ks) slabs 0)
+          → v ≡ (earlier beforeKeys (checkIn (unkept m) [] 0 (o .ids) ks) (keysIn (o .stores) (o .carried)) ⨾
+          roomIn (m .slots) (m .slotMarks) (m .tallies) (tallied noneAsked ks) slabs 0)
           → refusal (read m) (offer o) ≡ v
       rest-told v p =
           let u : checkIn m [] 0 (o .ids) (kindsOf (o .stores) (o .lengths)) ≡ checkIn (unkept m) [] 0 (o .ids) ks =
           ap (checkIn m [] 0 (o .ids)) (sym κ) ∙ sym (check-lent m [] 0 (o .ids) ks) in
-          refused-rest ∙ (λ i. u i ⨾ roomIn (m .slots) (m .slotMarks) (m .tallies) (tallied noneAsked (sym κ i)) slabs 0) ∙ sym p
+          refused-rest
+          ∙ (λ i. earlier beforeKeys (u i) (keysIn (o .stores) (o .carried)) ⨾ roomIn (m .slots) (m .slotMarks) (m .tallies) (tallied noneAsked (sym κ i)) slabs 0) ∙ sym p
 
       pub leaves-done : (ls marks words b t : List ℕ) → refusal (read m) (offer o) ≡ ok → ls ≡ sets (o .placed) 0 (placeIn (m .slots) (slotsOf m) ks)
           → slotsIn marks words ≡ takeSlots (m .slots) (slotsOf m) (placeIn (m .slots) (slotsOf m) ks) → b ≡ set (sets (sets (m .batch) keptIdsAt (o .ids)) keptLocationsAt ls) 0 (length (o .ids) + 1)
-          → t ≡ putRows width (upFrom (m .ids) (length (o .carried) / width)) (o .carried) (m .carried)
+          → Keeps t
           → record { answer = granted (placed ls); slotMarks = marks; batch = b; tallies = words; carried = t; placed = ls } ≡ offerLeaves m o
       unfolding read
       leaves-done ls marks words b c g p q k h =

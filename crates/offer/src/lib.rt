@@ -1,24 +1,27 @@
 // A batch is offered (document 01, "Ids, slots, pending"): its slots are taken in list order, and the store keeps it until it is committed
-// or abandoned. What the updates carry is kept with it (request 2026-01).
+// or abandoned. What the updates carry is kept with it (requests 2026-01 and 2026-06).
 //
-//     // ids 4 and 7 get objects of 3 and 300 bytes, 5 is freed; update_carried has carried::WIDTH bytes for each
+//     // ids 4 and 7 get objects of 3 and 300 bytes, 5 is freed; update_carried has carried::WIDTH bytes for each: the collection, the
+//     // key's length in 8 bytes, and 64 bytes that start with the key; a Free's are not looked at
 //     match offer::offer(caps, &id_marks, &locations, &mut slot_marks, &owners, &mut batch, &mut tallies,
 //         &mut carried, &[4, 7, 5], &[true, true, false], &[3, 300, 0], &update_carried, &mut placed) {
 //         Finished::Done => ..,              // placed has a packed location for each update, 0 for the Free
-//         Finished::Refused(refusal) => ..,  // nothing is written
+//         Finished::Refused(refusal) => ..,  // 1, 11, 15; by its update 8, 9, 21, 2, 13; by its slab 10; nothing is written
 //     }
 //
-// What could refuse only reads (`offer_updates`, `offer_room`); what is written comes after it and cannot fail (`offer_places`).
+// What could refuse only reads (`offer_updates`, `keys`, `offer_room`); what is written comes after it and cannot fail (`offer_places`,
+// `keys`).
 ghost use mathlib.Core.Path.{_≡_};
+ghost use mathlib.Core.Bool.{_&&_, _||_};
 ghost use mathlib.Core.List.{[]};
-ghost use Prim.Native.Nat.{_*_};
-ghost use lib.Dec.{eqb};
-ghost use Rattle.carried.specs.Carried.{width};
-ghost use Rattle.model.specs.Verdict.{_⨾_, judgedVerdict};
+ghost use lib.Dec.{eqb, ltb};
+ghost use Rattle.refusal.specs.Refusals.{keyTooLong};
+ghost use Rattle.model.specs.Columns.{beforeKeys};
+ghost use Rattle.model.specs.Verdict.{_⨾_, test, earlier, judgedVerdict};
 ghost use Rattle.model.specs.Lending.{everyTable, placeTables};
 ghost use Rattle.model.specs.Lent.{lentBy};
 ghost use Rattle.offer.specs.Outcome.{offeredAnswer, Left, offerLeaves};
-ghost use Rattle.offer.specs.Verdicts.{offerFits};
+ghost use Rattle.offer.specs.Verdicts.{offerFits, keysIn};
 ghost use Rattle.offer_updates.specs.Kinds.{checkIn};
 ghost use Rattle.offer_room.specs.Room.{roomInAll, tallied, noneAsked};
 use refusal::Finished;
@@ -68,6 +71,36 @@ fn fits(
     )
 }
 
+// Whether a refusal comes before that of a key which is too long, at this update.
+fn decides(refusal: Refusal, long: usize) -> bool
+    ensures { λ r. ⌜ r ≡ (ltb (refusal .index) long || (eqb (refusal .index) long && beforeKeys (refusal .number))) ⌝ }
+{
+    if refusal.index != long {
+        return refusal.index < long;
+    }
+    if refusal.number == Refusal::NO_SUCH_ID {
+        return true;
+    }
+    refusal.number == Refusal::REPEATED_ID
+}
+
+// What the other tests of the updates say, and that of the keys, of which `long` is the first that is too long.
+fn with_keys(checked: Judged, long: usize, updates: usize) -> Judged
+    ensures { λ r. ⌜ judgedVerdict r ≡ earlier beforeKeys (judgedVerdict checked) (test (ltb long updates) keyTooLong long) ⌝ }
+{
+    if updates <= long {
+        return checked;
+    }
+    let keyed = Judged::Refused(Refusal::at(Refusal::KEY_TOO_LONG, long));
+    let Judged::Refused(refusal) = checked else {
+        return keyed;
+    };
+    if decides(refusal, long) {
+        return checked;
+    }
+    keyed
+}
+
 // The refusals that speak of updates and of slabs. `slabs` has the slab of each update.
 fn refused(
     caps: Capacities,
@@ -77,15 +110,18 @@ fn refused(
     owners: &[u64],
     tallies: &[u64],
     ids: &[u64],
+    stores: &[bool],
+    update_carried: &[u8],
     slabs: &[usize],
 ) -> Judged
     ensures { λ r. ⌜ judgedVerdict r
-        ≡ (checkIn (lentBy placeTables (caps .ids) (caps .slots)
+        ≡ (earlier beforeKeys (checkIn (lentBy placeTables (caps .ids) (caps .slots)
         (now («id_marks» .entry))
         (now (locations .entry))
         (now («slot_marks» .entry))
         (now (owners .entry))
-        (now (tallies .entry))) [] 0 (now (ids .entry)) (now (slabs .entry))
+        (now (tallies .entry))) [] 0 (now (ids .entry)) (now (slabs .entry)))
+        (keysIn (now (stores .entry)) (now («update_carried» .entry)))
         ⨾ roomInAll (caps .slots) (now («slot_marks» .entry)) (now (tallies .entry)) (tallied noneAsked (now (slabs .entry)))) ⌝ }
 {
     let slots = caps.slots;
@@ -99,8 +135,10 @@ fn refused(
         ids,
         slabs,
     );
-    let Judged::Passed = checked else {
-        return checked;
+    let long = keys::first_long(stores, update_carried);
+    let judged = with_keys(checked, long, stores.len());
+    let Judged::Passed = judged else {
+        return judged;
     };
     let asked = offer_room::tally(slabs);
     offer_room::room(slots, slot_marks, tallies, &asked)
@@ -182,6 +220,8 @@ pub fn offer(
         owners,
         tallies,
         ids,
+        stores,
+        update_carried,
         slabs,
     );
     if let Judged::Refused(refusal) = judged {
@@ -189,6 +229,6 @@ pub fn offer(
     }
     offer_places::place(slots, slot_marks, tallies, slabs, placed);
     offer_places::keep(batch, ids, placed, n as u64 + 1);
-    carried::put_rows(carried, caps.ids, update_carried);
+    keys::keep(carried, caps.ids, stores, update_carried);
     Finished::Done
 }

@@ -1,28 +1,33 @@
 -- What the tests say of fresh and rebuild: refused with 1, or with a row's number, or granted, and then every table has its length.
 -- Assumes nothing.
 use mathlib.Core.Path.{_≡_, refl, ap, sym, _∙_}
-use mathlib.Core.Bool.{Bool, true, false, not, cond, _&&_}
+use mathlib.Core.Bool.{Bool, true, false, not, cond, _&&_, _||_}
 use mathlib.Core.List.{List, []}
-use Prim.Native.Nat.{ℕ, _*_, min}
-use lib.Dec.{eqb}
-use lib.ListN.{length, replicate}
+use Prim.Native.Nat.{ℕ, _*_, _≤_, _<_, min}
+use native.Mathlib.Omega.{arith}
+use lib.Dec.{eqb, ltb}
+use lib.ListN.{length, length-map, replicate}
 use lib.Seq.{set-getD}
-use borrow.Author.Tests.{eqb-true, eq-eqb, ne-eqb, not-true, not-false}
-use Rattle.refusal.proofs.Tests.{and-true, clash}
+use borrow.Author.Tests.{eqb-true, eq-eqb, ne-eqb, lt-ltb, le-ltb, ltb-false, not-true, not-false}
+use Rattle.refusal.proofs.Tests.{and-true, by-test, clash}
 use Rattle.refusal.specs.Outcomes.{granted, refused}
-use Rattle.refusal.specs.Refusals.{wrongShape}
+use Rattle.refusal.specs.Refusals.{wrongShape, keyTooLong}
 use Rattle.carried.specs.Carried.{width, putRows}
+use Rattle.keys.specs.Keys.{longIn, firstMet, normalRows, allStored}
+use Rattle.keys.proofs.Laws.{allStored-replicate}
 use Rattle.address.specs.Address.{badSlots}
-use Rattle.model.specs.Store.{Call, done, fresh, rebuild}
+use Rattle.model.specs.Store.{Call, Rows, done, fresh, rebuild}
 use Rattle.model.specs.Step.{answer, answerBy, grant, refusalOf, refusal, unless}
 use Rattle.model.specs.Tables.{writeAll, locationsOf}
 use Rattle.model.specs.Rebuild.{rows, rowsOf, heldBy, locatedBy, ownedBy}
-use Rattle.model.specs.Verdict.{ok, refuse, test, _⨾_}
+use Rattle.model.specs.Verdict.{Verdict, ok, refuse, test, testsFrom, earlier, _⨾_}
 use Rattle.model.specs.Memory.{Memory, memoryOf, carrying, read, putWord, wordAt, usedWords, tallyWords}
 use Rattle.model.specs.MemoryAfter.{memoryAfter, memoryEffect, memoryRebuilt, useSlots}
-use Rattle.model.specs.Columns.{rebuiltColumn}
+use Rattle.model.specs.Columns.{withRebuiltKeys, rebuiltColumn}
 use Rattle.model.specs.Lending.{everyTable}
 use Rattle.model.specs.Lent.{fits}
+use Rattle.model.proofs.Keyed.{first-long}
+use Rattle.model.proofs.Verdicts.{earlier-alone}
 use Rattle.model.proofs.Sizes.{shape-read, fits-range, fits-id-marks, fits-locations, fits-slot-marks, fits-owners, fits-batch, fits-tallies, fits-carried}
 use Rattle.rebuild_rows.specs.Checks.{refusedRow, wrongVerdict}
 use Rattle.rebuild_rows.specs.declared.Wrong.{Wrong}
@@ -78,6 +83,41 @@ fresh-granted m {f} {a} {b} {c} {d} {e} {g} {h} q n w =
 
 -- ---- rebuild
 
+-- the other tests of a row, and that of its key
+module _ (i k : ℕ) where
+  abbrev decides : Bool
+  decides = ltb i k || (eqb i k && true)
+
+  decides-to : i ≤ k → decides ≡ true
+  decides-to h = by-test (ltb i k) (λ p. rw p) (λ p. rw (p, eq-eqb i k (omega (arith, ltb-false i k p))))
+
+  decides-not : k < i → decides ≡ false
+  decides-not h = rw (le-ltb i k (omega arith), ne-eqb i k (λ e. omega arith))
+
+module _ (w : Wrong) (k n : ℕ) where
+  abbrev Keyed : Verdict
+  Keyed = earlier (λ n. true) (wrongVerdict w) (test (ltb k n) keyTooLong k)
+
+  pub keys-short : n ≤ k → wrongVerdict w ≡ Keyed
+  unfolding test
+  keys-short h = rw (le-ltb k n h) (earlier-alone (λ n. true) (wrongVerdict w))
+
+  module _ (h : k < n) where
+    pub keys-alone : w .number ≡ 0 → refuse keyTooLong k ≡ Keyed
+    unfolding earlier test
+    keys-alone z = rw (eq-eqb (w .number) 0 z, lt-ltb k n h)
+
+    module _ (z : w .number ≡ 0 → ⊥) where
+      both-refuse : {b : Bool} → decides (w .row) k ≡ b → cond b (refuse (w .number) (w .row)) (refuse keyTooLong k) ≡ Keyed
+      unfolding earlier test
+      both-refuse e = rw (ne-eqb (w .number) 0 z, lt-ltb k n h) (ap (λ b. cond b (refuse (w .number) (w .row)) (refuse keyTooLong k)) (sym e))
+
+      pub keys-after : w .row ≤ k → wrongVerdict w ≡ Keyed
+      keys-after q = ap (λ b. cond b ok (refuse (w .number) (w .row))) (ne-eqb (w .number) 0 z) ∙ both-refuse (decides-to (w .row) k q)
+
+      pub keys-before : k < w .row → refuse keyTooLong k ≡ Keyed
+      keys-before q = both-refuse (decides-not (w .row) k q)
+
 -- the memory that it leaves
 abbrev rebuiltMemory : Memory → List ℕ → List ℕ → List ℕ → Memory
 rebuiltMemory m is ls bs =
@@ -93,7 +133,7 @@ module _ (m : Memory) (is ls bs a b c d e g h : List ℕ) where
       × (d ≡ ownedBy (m .slots) (rowsOf is ls) (replicate (length (m .owners)) 0))
       × (e ≡ replicate (length (m .batch)) 0)
       × (g ≡ useSlots (m .slots) (putWord (replicate (length (m .tallies)) 0) usedWords 0 (min 1 (length is))) (locationsOf (rowsOf is ls)))
-      × (h ≡ putRows width is bs (replicate (length (m .carried)) 0))
+      × (h ≡ putRows width is (normalRows (allStored is) bs) (replicate (length (m .carried)) 0))
 
   written : fits everyTable m ≡ true → length ls ≡ length is → Written
       → carrying (memoryOf (m .ids) (m .slots) a b c d e g) h ≡ rebuiltMemory m is ls bs
@@ -107,11 +147,14 @@ module _ (m : Memory) (is ls bs a b c d e g h : List ℕ) where
       (ownedBy (m .slots) (rowsOf is ls) (replicate (fits-owners everyTable m f i) 0))
       (replicate (fits-batch everyTable m f i) 0)
       (useSlots (m .slots) (putWord (replicate (fits-tallies everyTable m f i) 0) usedWords 0 (min 1 (rows-length is ls q i))) (locationsOf (rowsOf is ls))))
-      (putRows width is bs (replicate (fits-carried everyTable m f i) 0)))
+      (putRows width is (normalRows (allStored is) bs) (replicate (fits-carried everyTable m f i) 0)))
 
 module _ (m : Memory) (is ls bs : List ℕ) where
+  abbrev given : Rows
+  given = record { ids = is; locations = ls; carried = bs }
+
   abbrev call : Call
-  call = rebuild (record { ids = is; locations = ls; carried = bs })
+  call = rebuild given
 
   -- there are as many locations as ids, and as many bytes as they carry
   abbrev long : Bool
@@ -127,11 +170,11 @@ module _ (m : Memory) (is ls bs : List ℕ) where
   fit-so q r p n = sym (p ∙ (λ i. q i && r i)) ∙ not-false _ n
 
   rebuild-refusal : {a b : Bool} → fits everyTable m ≡ a → long ≡ b
-      → refusal (read m) call ≡ (test (not a) wrongShape 0 ⨾ test (not b) wrongShape 0 ⨾ rows (read m) [] [] 0 (rowsOf is ls))
+      → refusal (read m) call ≡ (test (not a) wrongShape 0 ⨾ test (not b) wrongShape 0 ⨾ withRebuiltKeys given (rows (read m) [] [] 0 (rowsOf is ls)))
   unfolding refusal refusalOf
   rebuild-refusal p q =
-      (λ i. shape-read call m i ⨾ test (not long) wrongShape 0 ⨾ rows (read m) [] [] 0 (rowsOf is ls))
-      ∙ (λ i. test (not (p i)) wrongShape 0 ⨾ test (not (q i)) wrongShape 0 ⨾ rows (read m) [] [] 0 (rowsOf is ls))
+      (λ i. shape-read call m i ⨾ test (not long) wrongShape 0 ⨾ withRebuiltKeys given (rows (read m) [] [] 0 (rowsOf is ls)))
+      ∙ (λ i. test (not (p i)) wrongShape 0 ⨾ test (not (q i)) wrongShape 0 ⨾ withRebuiltKeys given (rows (read m) [] [] 0 (rowsOf is ls)))
 
   rebuild-shape : (a b : Bool) → fits everyTable m ≡ a → long ≡ b → (a && b) ≡ false → refusal (read m) call ≡ refuse wrongShape 0
   unfolding test _⨾_
@@ -149,20 +192,38 @@ module _ (m : Memory) (is ls bs : List ℕ) where
     pub shape : fits everyTable m ≡ true
     pub good : badSlots (m .slots) ≡ false
     pub long-is : length ls ≡ length is
+    pub carries : length bs ≡ length is * width
 
   pub fit-rows : fit ≡ true → RowsFit
   fit-rows e =
       let b = and-true (fits everyTable m) long e in
-      record { shape = b .0; good = fits-range everyTable m (b .0) .slots-good; long-is = eqb-true _ _ (and-true (eqb (length ls) (length is)) _ (b .1) .0) }
+      let l = and-true (eqb (length ls) (length is)) _ (b .1) in
+      record { shape = b .0; good = fits-range everyTable m (b .0) .slots-good; long-is = eqb-true _ _ (l .0); carries = eqb-true _ _ (l .1) }
 
-  module _ (e : fit ≡ true) (w : Wrong) (c : w ≡ refusedRow (m .ids) (m .slots) is ls) where
+  -- the first of the rows whose key is too long, as the code finds it
+  abbrev pub firstLong : ℕ
+  firstLong = cond (eqb (length bs) (length is * width)) (firstMet (longIn (replicate (length is) true) bs)) (length is)
+
+  keys-told : length bs ≡ length is * width → (k : ℕ) → k ≡ firstLong
+      → testsFrom keyTooLong 0 (longIn (allStored is) bs) ≡ test (ltb k (length is)) keyTooLong k
+  keys-told l k p =
+      let s = sym (allStored-replicate is) in
+      let n : length (allStored is) ≡ length is = length-map is (λ (i : ℕ). true) in
+      first-long (allStored is) bs k
+      (p ∙ (λ i. cond (eqb (length bs) (sym n i * width)) (firstMet (longIn (s i) bs)) (sym n i)))
+      (l ∙ ap (λ x. x * width) (sym n))
+      ∙ ap (λ x. test (ltb k x) keyTooLong k) n
+
+  module _ (e : fit ≡ true) (v : Wrong) (c : v ≡ refusedRow (m .ids) (m .slots) is ls) (k : ℕ) (l : k ≡ firstLong)
+      (w : Wrong) (d : wrongVerdict w ≡ earlier (λ n. true) (wrongVerdict v) (test (ltb k (length is)) keyTooLong k)) where
     verdict : refusal (read m) call ≡ wrongVerdict w
     unfolding test _⨾_ read
     verdict =
         let b = and-true (fits everyTable m) long e in
         let r = fit-rows e in
-        rebuild-refusal (b .0) (b .1)
-        ∙ sym (verdict-is (read m) is ls (fits-range everyTable m (b .0) .ids-to) (r .good) (r .long-is)) ∙ ap wrongVerdict (sym c)
+        let o = sym (verdict-is (read m) is ls (fits-range everyTable m (b .0) .ids-to) (r .good) (r .long-is)) ∙ ap wrongVerdict (sym c) in
+        let t = keys-told (r .carries) k l in
+        rebuild-refusal (b .0) (b .1) ∙ (λ i. earlier (λ n. true) (o i) (t i)) ∙ sym d
 
     pub rebuild-refused : (w .number ≡ 0 → ⊥) → (refused (w .number) (w .row) ≡ answer (read m) call) × (m ≡ memoryAfter m call)
     unfolding answer memoryAfter

@@ -1,9 +1,10 @@
 // The rows written into cleared tables. Nothing can fail any more.
 ghost use mathlib.Core.Path.{_≡_};
 ghost use mathlib.Core.Bool.{false, cond};
-ghost use Prim.Native.Nat.{_/_, min};
+ghost use Prim.Native.Nat.{_*_, _/_, min};
 ghost use lib.ListN.{length, replicate};
 ghost use Rattle.carried.specs.Carried.{width, putRows};
+ghost use Rattle.keys.specs.Keys.{normalRows, allStored};
 ghost use Rattle.address.specs.Address.{badSlots, unit, isLocation};
 ghost use Rattle.model.specs.Tables.{write, writeAll, locationsOf};
 ghost use Rattle.model.specs.Rebuild.{rowsOf, heldBy, locatedBy, ownedBy};
@@ -98,7 +99,9 @@ pub(crate) fn write(
     row_locations: &[u64],
     row_carried: &[u8],
 )
-    requires { ⌜ (badSlots slots ≡ false) × (length (now «row_locations») ≡ length (now ids)) ⌝ }
+    requires { ⌜ (badSlots slots ≡ false)
+        × (length (now «row_locations») ≡ length (now ids))
+        × (length (now «row_carried») ≡ length (now ids) * width) ⌝ }
     ensures { λ _. ⌜ (now («id_marks» .exit)
         ≡ heldBy (rowsOf (now (ids .entry)) (now («row_locations» .entry))) (replicate (length (now («id_marks» .entry))) 0))
         × (now (locations .exit)
@@ -113,7 +116,8 @@ pub(crate) fn write(
         ≡ useSlots slots (putWord (replicate (length (now (tallies .entry))) 0) usedWords 0 (min 1 (length (now (ids .entry)))))
         (locationsOf (rowsOf (now (ids .entry)) (now («row_locations» .entry)))))
         × (now (carried .exit)
-        ≡ putRows width (now (ids .entry)) (now («row_carried» .entry)) (replicate (length (now (carried .entry))) 0)) ⌝ }
+        ≡ putRows width (now (ids .entry)) (normalRows (allStored (now (ids .entry))) (now («row_carried» .entry)))
+        (replicate (length (now (carried .entry))) 0)) ⌝ }
 {
     clear::all(
         id_marks,
@@ -127,5 +131,5 @@ pub(crate) fn write(
     tables::put(tallies, tables::USED, 0, any(ids.len()));
     hold_ids(id_marks, locations, ids, row_locations);
     hold_slots(slots, slot_marks, owners, tallies, ids, row_locations);
-    carried::put_rows_at(carried, ids, row_carried);
+    keys::put_at(carried, ids, row_carried);
 }

@@ -1,21 +1,26 @@
 // A store made anew: from rows of an id, a location and what the row carries, or from none (object_location_mapper.rs, new; document 01,
-// "Ids, slots, pending"; request 2026-01).
+// "Ids, slots, pending"; requests 2026-01 and 2026-06).
 //
-//     // ids, row_locations, row_carried: the rows, in any order; row_carried has carried::WIDTH bytes for each
+//     // ids, row_locations, row_carried: the rows, in any order; row_carried has carried::WIDTH bytes for each: the collection, the key's
+//     // length in 8 bytes, and 64 bytes that start with the key
 //     match rebuild::rebuild(caps, &mut id_marks, &mut locations, &mut slot_marks, &mut owners, &mut batch, &mut tallies, &mut carried,
 //         &ids, &row_locations, &row_carried) {
 //         Finished::Done => ..,
-//         Finished::Refused(refusal) => ..,  // 1; by its row 8, 9, 3, 16
+//         Finished::Refused(refusal) => ..,  // 1; by its row 8, 9, 3, 16, 21
 //     }
 //
 // Every word and byte of the seven tables is written, or none where the call is refused.
 ghost use mathlib.Core.Path.{_≡_};
-ghost use mathlib.Core.Bool.{_&&_};
+ghost use mathlib.Core.Bool.{true, _&&_};
 ghost use Prim.Native.Nat.{_*_};
-ghost use lib.Dec.{eqb};
+ghost use lib.Dec.{eqb, ltb};
+ghost use Rattle.refusal.specs.Refusals.{keyTooLong};
 ghost use Rattle.carried.specs.Carried.{width};
 ghost use Rattle.model.specs.Store.{fresh, rebuild, finishedAnswer};
 ghost use Rattle.model.specs.Lent.{lentTo, answered, leaves};
+ghost use Rattle.model.specs.Verdict.{test, earlier};
+ghost use Rattle.rebuild_rows.specs.Checks.{wrongVerdict};
+use rebuild_rows::Wrong;
 use refusal::Finished;
 use refusal::Refusal;
 use tables::Capacities;
@@ -91,6 +96,26 @@ fn rows_fit(ids: usize, locations: usize, carried: usize) -> bool
     tables::both(locations == ids, tables::carries(ids, carried))
 }
 
+// The first row that is refused, where `long` is the first whose key is too long: of one row's refusals that of the key comes last.
+fn with_keys(wrong: Wrong, long: usize, rows: usize) -> Wrong
+    ensures { λ r. ⌜ wrongVerdict r ≡ earlier (λ n. true) (wrongVerdict wrong) (test (ltb long rows) keyTooLong long) ⌝ }
+{
+    if rows <= long {
+        return wrong;
+    }
+    let keyed = Wrong {
+        row: long,
+        number: Refusal::KEY_TOO_LONG,
+    };
+    if wrong.number == 0 {
+        return keyed;
+    }
+    if long < wrong.row {
+        return keyed;
+    }
+    wrong
+}
+
 // A store that holds the rows' ids and slots, and nothing else.
 pub fn rebuild(
     caps: Capacities,
@@ -150,7 +175,9 @@ pub fn rebuild(
     ) {
         return Finished::Refused(Refusal::of(Refusal::WRONG_SHAPE));
     }
-    let wrong = rebuild_rows::first_refused(caps, ids, row_locations);
+    let first = rebuild_rows::first_refused(caps, ids, row_locations);
+    let long = keys::first_long_row(ids.len(), row_carried);
+    let wrong = with_keys(first, long, ids.len());
     if wrong.number != 0 {
         return Finished::Refused(Refusal::at(wrong.number, wrong.row));
     }

@@ -25,7 +25,7 @@ checkDiffers = 4
 abbrev pub tooLong : ℕ
 tooLong = 5
 
--- a cookie version that is not 1
+-- the version of a cookie, or of a snapshot block, is unknown
 abbrev pub unknownVersion : ℕ
 unknownVersion = 6
 
@@ -77,7 +77,7 @@ nothingToCut = 17
 abbrev pub gapNotZero : ℕ
 gapNotZero = 18
 
--- a snapshot block's number, count, padding, key or row order is wrong
+-- a snapshot block's number, count, padding, key or row order is wrong, or its version is not that of the block before
 abbrev pub wrongBlock : ℕ
 wrongBlock = 19
 

@@ -35,7 +35,7 @@ impl Refusal {
     pub const CHECK_DIFFERS: u8 = 4;
     // A stored length, or an object to be written, longer than its slot takes.
     pub const TOO_LONG: u8 = 5;
-    // A cookie version that is not 1.
+    // The version of a cookie, or of a snapshot block, is unknown.
     pub const UNKNOWN_VERSION: u8 = 6;
     // The fanout differs.
     pub const FANOUT_DIFFERS: u8 = 7;
@@ -61,7 +61,7 @@ impl Refusal {
     pub const NOTHING_TO_CUT: u8 = 17;
     // Bytes between object and frame are not zero.
     pub const GAP_NOT_ZERO: u8 = 18;
-    // A snapshot block's number, count, padding, key or row order is wrong.
+    // A snapshot block's number, count, padding, key or row order is wrong, or its version is not that of the block before.
     pub const WRONG_BLOCK: u8 = 19;
     // Chunks run past the told length, or end before it.
     pub const WRONG_END: u8 = 20;

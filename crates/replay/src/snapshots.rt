@@ -16,9 +16,9 @@ const ANY: u64 = 165;
 const ANY_BYTE: u8 = 165;
 
 fn step_in(line: &[u8], file: &[u8]) -> bool {
-    let mut v = [0u64; 6];
-    let block = line::word(line, 10) as usize;
-    let row = line::word(line, 11) as usize;
+    let mut v = [0u64; 8];
+    let block = line::word(line, 12) as usize;
+    let row = line::word(line, 13) as usize;
     let status = exports::wentuhoro_snapshot_step(file, block, row, &mut v);
     line::says(line, status) && rows::hold(line, 4, &v)
 }
@@ -26,8 +26,8 @@ fn step_in(line: &[u8], file: &[u8]) -> bool {
 // BLOCK ROW.
 pub fn step(line: &[u8]) -> bool {
     let mut space = said::space();
-    let file = said::first(&mut space, line::word(line, 12) as usize);
-    said::put(line, line::word(line, 13), file);
+    let file = said::first(&mut space, line::word(line, 14) as usize);
+    said::put(line, line::word(line, 15), file);
     step_in(line, file)
 }
 

@@ -2,7 +2,7 @@
 use crate::columns;
 use replay_words::line;
 
-// The updates' ids, kinds, lengths and collections; then the locations that they are given.
+// The updates' ids, kinds, lengths, and what they carry, ten words each; then the locations that they are given.
 pub fn offer(
     ids: usize,
     slots: usize,
@@ -20,7 +20,7 @@ pub fn offer(
     let are_stores = columns::are_stores(line, 5 + n, n);
     let lengths = columns::words(line, 5 + 2 * n as u32, n);
     let update_carried = columns::carried(line, 5 + 3 * n, n);
-    let answer = 5 + 4 * n as u32;
+    let answer = 5 + 13 * n as u32;
     let mut placed = columns::column();
     let status = exports::wentuhoro_offer(
         ids,
@@ -41,7 +41,7 @@ pub fn offer(
     line::says(line, status) & columns::hold(line, answer, &placed, n)
 }
 
-// The rows' ids, locations and collections.
+// The rows' ids, locations, and what they carry.
 pub fn rebuild(
     ids: usize,
     slots: usize,

@@ -1,5 +1,6 @@
 // Columns of rows, for what a call is asked with and for what it answers.
 ghost use Prim.Native.Nat.{_≤_};
+use carried::WIDTH;
 use replay_words::line;
 use replay_words::rows;
 
@@ -52,12 +53,12 @@ pub fn hold(line: &[u8], from: u32, column: &[u64; MOST], n: usize) -> bool {
     rows::hold(line, from, &all[0..n])
 }
 
-// What n rows carry: the words from word `from` on, byte for byte; nothing where the line has not so many.
+// What n rows carry: WIDTH bytes each, from word `from` on; nothing where the line has not so many.
 pub fn carried(line: &[u8], from: usize, n: usize) -> &[u8]
     requires { ⌜ (from ≤ 2048) × (n ≤ 512) ⌝ }
 {
     let start = 8 * from;
-    let end = start + 8 * n;
+    let end = start + WIDTH * n;
     if line.len() < end {
         return &line[0..0];
     }

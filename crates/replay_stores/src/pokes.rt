@@ -4,6 +4,9 @@
 // A mark is said as document 01 reads it, where the tables read it by the hint and the waiting word of its allocator. At each poke of a
 // mark the list sets these two besides, to 0 and to 1, by which every mark counts as it stands. A peek of a mark reads it by them, as 0, 1
 // or 2: HINT_AT and WAITING_AT, which follow VALUE, are their places in the tallies, and NUMBER the mark's in its allocator.
+//
+// Of a row of what rows carry a poke has all bytes in place of VALUE, and a peek the check over them.
+use crate::columns;
 use marks::FREE;
 use marks::HELD;
 use marks::PENDING;
@@ -24,7 +27,7 @@ const TALLIES: u64 = 5;
 // Words of the tallies that are read as 0 or 1.
 const USED: u64 = 6;
 
-// A row of what rows carry, as a number.
+// A row of what rows carry.
 const CARRIED: u64 = 7;
 
 pub fn put_mark(marks: &mut [u8], line: &[u8]) -> bool {
@@ -43,9 +46,7 @@ pub fn put_word(words: &mut [u64], line: &[u8]) -> bool {
 // The row of what an id or a kept update carries.
 pub fn put_row(carried: &mut [u8], line: &[u8]) -> bool {
     let at = line::word(line, 3) as usize;
-    let mut row = [0u8; carried::WIDTH];
-    little_endian::put(&mut row, line::word(line, 4));
-    carried::put_row(carried, at, &row);
+    carried::put_row(carried, at, columns::carried(line, 4, 1));
     true
 }
 
@@ -83,7 +84,7 @@ fn is_used(tallies: &[u64], at: usize, value: u64) -> bool {
 }
 
 fn is_row(carried: &[u8], at: usize, value: u64) -> bool {
-    little_endian::get(carried::row(carried, at)) == value
+    exports::wentuhoro_crc32(carried::row(carried, at)) as u64 == value
 }
 
 pub fn peek(

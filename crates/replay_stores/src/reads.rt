@@ -7,6 +7,7 @@ use replay_words::line;
 use replay_words::ratios;
 use tables::ALLOCATORS;
 
+// Of the row that a lookup fills in the line has the check.
 fn lookup(
     ids: usize,
     slots: usize,
@@ -33,7 +34,7 @@ fn lookup(
         &mut v,
         &mut row,
     );
-    line::says_two(line, status, v[0], little_endian::get(&row))
+    line::says_two(line, status, v[0], exports::wentuhoro_crc32(&row) as u64)
 }
 
 // A list that a defrag is lent has a row for each id above 0.
@@ -124,11 +125,11 @@ fn snapshot_length(
 }
 
 // The bytes that a snapshot of so many ids takes, and more.
-const MOST_BYTES: usize = 16384;
+const MOST_BYTES: usize = 32768;
 
 // How long a file is lent; where the line says more than there can be, none is, and the call differs.
 fn lent_bytes(line: &[u8]) -> usize
-    ensures { λ r. ⌜ r ≤ 16384 ⌝ }
+    ensures { λ r. ⌜ r ≤ 32768 ⌝ }
 {
     let n = line::word(line, 5);
     if n <= MOST_BYTES as u64 {

@@ -1,4 +1,4 @@
-// A snapshot read row by row (request 2026-01).
+// A snapshot read row by row (requests 2026-01 and 2026-06). All its blocks are of one version, 1 or 2.
 //
 //     let mut at = Position::start();
 //     loop {
@@ -12,14 +12,14 @@
 // A step judges the whole block that it reads from, so that a position of any origin is legal. Where the whole file is wanted,
 // snapshot_lists judges each block once.
 ghost use mathlib.Core.Path.{_≡_};
-ghost use Prim.Native.Nat.{_<_, _≤_, _^_};
-ghost use Rattle.snapshot_blocks.specs.Blocks.{countIn};
-ghost use Rattle.snapshot_blocks.specs.Formats.{version1};
+ghost use Prim.Native.Nat.{_+_, _<_, _≤_, _^_};
+ghost use Rattle.snapshot_blocks.specs.declared.Row.{Row};
+ghost use Rattle.snapshot_blocks.specs.Blocks.{countIn, versionIn};
+ghost use Rattle.snapshot_blocks.specs.Formats.{formatOf, perBlock};
 ghost use Rattle.snapshot.specs.declared.Position.{Position};
-ghost use Rattle.snapshot.specs.Snapshot.{isPlace, follows, wrongAt, nextPosition, stepIn, stepOf};
+ghost use Rattle.snapshot.specs.Snapshot.{isPlace, follows, wrongBy, nextPosition, stepIn, stepBy};
 use refusal::Refusal;
 use snapshot_blocks::BLOCK;
-use snapshot_blocks::PER_BLOCK;
 use snapshot_blocks::Row;
 
 // Where the next row is: its block, and its place there.
@@ -44,17 +44,22 @@ pub fn is_place(number: usize, len: usize) -> bool
     number < len / BLOCK
 }
 
-// Whether a block's first id is above the last of the full block before it.
+// Whether the block before one of a known version is of the same, and the block's first id is above the last of that full block.
 fn follows_on(before: &[u8], block: &[u8]) -> bool
-    ensures { λ r. ⌜ r ≡ follows version1 (now (before .entry)) (now (block .entry)) ⌝ }
+    requires { ⌜ versionIn (now block) ≡ formatOf (versionIn (now block)) .version ⌝ }
+    ensures { λ r. ⌜ r ≡ follows (formatOf (versionIn (now (block .entry)))) (now (before .entry)) (now (block .entry)) ⌝ }
 {
-    snapshot_blocks::id_at(before, PER_BLOCK - 1) < snapshot_blocks::id_at(block, 0)
+    if snapshot_blocks::version_in(before) != snapshot_blocks::version_in(block) {
+        return false;
+    }
+    let last = snapshot_blocks::most_in(block) - 1;
+    snapshot_blocks::id_at(before, last) < snapshot_blocks::id_at(block, 0)
 }
 
 // What is wrong with the block at `number`, 0 for nothing. The block before it is not judged again: of a file that is read from its
 // start it was.
 pub fn wrong_at(number: usize, file: &[u8]) -> u8
-    ensures { λ r. ⌜ r ≡ wrongAt version1 number (now (file .entry)) ⌝ }
+    ensures { λ r. ⌜ r ≡ wrongBy formatOf number (now (file .entry)) ⌝ }
 {
     if !is_place(number, file.len()) {
         return Refusal::WRONG_SHAPE;
@@ -99,14 +104,30 @@ fn next_of(number: usize, row: usize, count: usize, last: bool) -> Position
     }
 }
 
+// A row with its key's place in the file, where its block starts at `start`.
+fn placed(row: Row, start: usize) -> Row
+    requires { ⌜ start + row .key < 2 ^ 64 ⌝ }
+    ensures { λ r. ⌜ _≡_ {A = Row} r
+        (record { id = row .id; collection = row .collection; location = row .location; key = start + row .key; length = row .length }) ⌝ }
+{
+    Row {
+        id: row.id,
+        collection: row.collection,
+        location: row.location,
+        key: start + row.key,
+        length: row.length,
+    }
+}
+
 // The step in a block that is right.
 fn step_in(number: usize, row: usize, last: bool, block: &[u8]) -> Step
-    requires { ⌜ (countIn (now block) ≤ 20) × (number < 2 ^ 55) ⌝ }
-    ensures { λ r. ⌜ r ≡ stepIn version1 number row last (now (block .entry)) ⌝ }
+    requires { ⌜ (countIn (now block) ≤ perBlock (formatOf (versionIn (now block)))) × (number < 2 ^ 55) ⌝ }
+    ensures { λ r. ⌜ r ≡ stepIn (formatOf (versionIn (now (block .entry)))) number row last (now (block .entry)) ⌝ }
 {
     let count = snapshot_blocks::count_in(block);
     if row < count {
-        let shown = snapshot_blocks::row_at(block, row);
+        let start = BLOCK * number;
+        let shown = placed(snapshot_blocks::row_at(block, row), start);
         let after = next_of(number, row, count, last);
         return Step::Row(shown, after);
     }
@@ -129,7 +150,7 @@ impl Position {
 
     // The row at this position with the next one, the end, or what is wrong.
     pub fn step(self, file: &[u8]) -> Step
-        ensures { λ r. ⌜ r ≡ stepOf version1 (self .block) (self .row) (now (file .entry)) ⌝ }
+        ensures { λ r. ⌜ r ≡ stepBy formatOf (self .block) (self .row) (now (file .entry)) ⌝ }
     {
         let number = self.block;
         let row = self.row;

@@ -140,7 +140,7 @@ module _ (f : Format) (number : ℕ) (w : 8 ≤ f .width) (rows : List Entry) (h
       ∙ getAt-middle [] (bytesOf 4 number) q 0 4 refl (omega (arith, length-bytesOf 4 number)) (omega (arith, length-bytesOf 4 number))
       ∙ word-bytesOf 4 number lt
 
-  versionIn-blockOf : f .version < 2 ^ 16 → versionIn (blockOf f number rows) ≡ f .version
+  pub versionIn-blockOf : f .version < 2 ^ 16 → versionIn (blockOf f number rows) ≡ f .version
   versionIn-blockOf lt =
       let b₁ = bytesOf 4 number in
       let b₂ = bytesOf 2 (length rows) in
@@ -181,7 +181,7 @@ module _ (f : Format) (number : ℕ) (w : 8 ≤ f .width) (rows : List Entry) (h
       let n : length (zeros rows) ≡ 508 - (8 + rowLength f * length rows) = length-replicate {A = ℕ} (500 - length r) 0 ∙ omega arith in
       ap (take (508 - (8 + rowLength f * length rows))) d ∙ take-at (zeros rows) (checked f number rows) (508 - (8 + rowLength f * length rows)) n
 
-  intact-blockOf : isSigned (blockOf f number rows) ≡ true
+  pub intact-blockOf : isSigned (blockOf f number rows) ≡ true
   unfolding blockOf
   intact-blockOf = isSigned-signed (blockBody f number rows) blockBody-bytes
 

@@ -10,9 +10,9 @@ use lib.ListN.{length, getD, drop, drop-of-length-le}
 use lib.Seq.{drop-cons}
 use borrow.Author.Tests.{lt-ltb, le-ltb, ltb-true, eq-eqb, ne-eqb, eqb-true, le-leb, lt-leb, leb-true}
 use Rattle.refusal.proofs.Tests.{and-true}
-use Rattle.snapshot_blocks.specs.Formats.{version1, perBlock}
+use Rattle.snapshot_blocks.specs.Formats.{version2, perBlock}
 use Rattle.snapshot_blocks.specs.Blocks.{AreRows, rowsInBoth, eachBelow, canWrite}
-use Rattle.snapshot_blocks.proofs.Turns.{perBlock-version1}
+use Rattle.snapshot_blocks.proofs.Turns.{perBlock-version2}
 
 -- ---- a turn of the loop over the ids
 module _ (rows : ℕ) (ids : List ℕ) (i : ℕ) where
@@ -44,31 +44,31 @@ at-eachBelow rows (i ∷ ids) f = rw (lt-ltb i rows (f 0 (omega arith)), at-each
 
 -- ---- the test of a block
 module _ (ids : List ℕ) (locations carried block : ℕ) where
-  pub canWrite-many : 20 < length ids → canWrite version1 ids locations carried block ≡ false
+  pub canWrite-many : 5 < length ids → canWrite version2 ids locations carried block ≡ false
   unfolding canWrite
-  canWrite-many h = rw (perBlock-version1, lt-leb (length ids) 20 h)
+  canWrite-many h = rw (perBlock-version2, lt-leb (length ids) 5 h)
 
-  pub canWrite-short : length ids ≤ 20 → (block ≡ 512 → ⊥) → canWrite version1 ids locations carried block ≡ false
+  pub canWrite-short : length ids ≤ 5 → (block ≡ 512 → ⊥) → canWrite version2 ids locations carried block ≡ false
   unfolding canWrite
-  canWrite-short h n = rw (perBlock-version1, le-leb (length ids) 20 h, ne-eqb block 512 n)
+  canWrite-short h n = rw (perBlock-version2, le-leb (length ids) 5 h, ne-eqb block 512 n)
 
-  pub canWrite-each : length ids ≤ 20 → block ≡ 512 → canWrite version1 ids locations carried block ≡ eachBelow (rowsInBoth 8 locations carried) ids
+  pub canWrite-each : length ids ≤ 5 → block ≡ 512 → canWrite version2 ids locations carried block ≡ eachBelow (rowsInBoth 80 locations carried) ids
   unfolding canWrite
-  canWrite-each h e = rw (perBlock-version1, le-leb (length ids) 20 h, eq-eqb block 512 e)
+  canWrite-each h e = rw (perBlock-version2, le-leb (length ids) 5 h, eq-eqb block 512 e)
 
 module _ (ids locations carried : List ℕ) (block : ℕ) where
-  pub canWrite-rows : canWrite version1 ids (length locations) (length carried) block ≡ true → (length ids ≤ 20) × (block ≡ 512) × AreRows 8 locations carried ids
+  pub canWrite-rows : canWrite version2 ids (length locations) (length carried) block ≡ true → (length ids ≤ 5) × (block ≡ 512) × AreRows 80 locations carried ids
   unfolding canWrite
   canWrite-rows e =
-      let rows = rowsInBoth 8 (length locations) (length carried) in
-      let p = and-true (leb (length ids) (perBlock version1)) (eqb block 512 && eachBelow rows ids) e in
+      let rows = rowsInBoth 80 (length locations) (length carried) in
+      let p = and-true (leb (length ids) (perBlock version2)) (eqb block 512 && eachBelow rows ids) e in
       let q = and-true (eqb block 512) (eachBelow rows ids) (p .1) in (
-        rw perBlock-version1 at (leb-true (length ids) (perBlock version1) (p .0)),
+        rw perBlock-version2 at (leb-true (length ids) (perBlock version2) (p .0)),
         eqb-true block 512 (q .0),
         λ k h. let b = eachBelow-at rows ids (q .1) k h in (omega arith, omega arith),
       )
 
-  pub rows-canWrite : length ids ≤ 20 → block ≡ 512 → AreRows 8 locations carried ids → canWrite version1 ids (length locations) (length carried) block ≡ true
+  pub rows-canWrite : length ids ≤ 5 → block ≡ 512 → AreRows 80 locations carried ids → canWrite version2 ids (length locations) (length carried) block ≡ true
   rows-canWrite h e r =
       canWrite-each ids (length locations) (length carried) block h e
-      ∙ at-eachBelow (rowsInBoth 8 (length locations) (length carried)) ids (λ k l. let b = r k l in omega (arith, b .0, b .1))
+      ∙ at-eachBelow (rowsInBoth 80 (length locations) (length carried)) ids (λ k l. let b = r k l in omega (arith, b .0, b .1))

@@ -1,4 +1,4 @@
--- Writing a block from the tables: a row by its three numbers, row after row, then head, padding and check. Assumes nothing.
+-- Writing a block from the tables: a row by what it carries and three numbers, row after row, then head, padding and check. Assumes nothing.
 use mathlib.Core.Bool.{false}
 use mathlib.Core.Path.{_≡_, refl, sym, ap, _∙_}
 use mathlib.Core.List.{List, [], _∷_, _++_, map, append-nil, append-assoc}
@@ -6,19 +6,22 @@ use Prim.Native.Nat.{ℕ, suc, _+_, _-_, _*_, _^_, _≤_, _<_}
 use native.Mathlib.Numerals.{add-one}
 use native.Mathlib.Omega.{arith}
 use lib.ListN.{length, getD, take, drop, replicate, length-append, length-drop, take-append-drop, drop-of-length-le}
-use lib.Seq.{length-take-le, take-all, take-at, take-suc, drop-at, drop-drop}
+use lib.Seq.{length-take-le, take-all, take-at, take-suc, take-add, take-take, drop-at, drop-drop, drop-append-le}
 use Rattle.list_parts.specs.Parts.{part}
-use Rattle.list_parts.proofs.Parts.{length-part-full}
+use borrow.Rule.Slice.PartMut.{putMid}
+use Rattle.list_parts.proofs.Parts.{length-part-full, part-range}
+use Rattle.list_parts.proofs.Ranges.{put-range}
+use Rattle.carried.specs.Carried.{putRow}
+use Rattle.carried.proofs.Laws.{putRow-done}
 use Rattle.little_endian.specs.LittleEndian.{Bytes, bytesOf, getAt, putAt}
 use Rattle.little_endian.proofs.Laws.{take-bytes, drop-bytes, bytesOf-zero, length-bytesOf}
 use Rattle.seal.specs.Seal.{signed, resigned}
 use Rattle.seal.proofs.Laws.{resigned-body}
 use Rattle.snapshot_blocks.specs.Formats.{Format}
-use Rattle.snapshot_blocks.specs.Blocks.{Entry, entryFor, AreRows, rowBytes, rowsBytes, blockBody, blockOf, shownBytes}
-use Rattle.snapshot_blocks.specs.declared.Row.{Row}
+use Rattle.snapshot_blocks.specs.Blocks.{Entry, entryFor, AreRows, rowBytes, rowsBytes, blockBody, blockOf}
 use Rattle.snapshot_blocks.specs.Valid.{Valid, All}
 use Rattle.snapshot_blocks.proofs.Fields.{field-back, putAt-front}
-use Rattle.snapshot_blocks.proofs.Rows.{Wide}
+use Rattle.snapshot_blocks.proofs.Rows.{Wide, length-rowBytes}
 
 -- ---- the rows of the tables
 module _ (f : Format) (locations carried : List ℕ) where
@@ -44,24 +47,11 @@ module _ (f : Format) (locations carried : List ℕ) where
     valid-entriesFor ids (λ k. n (suc k)) l b c (tail-rows i ids h),
   )
 
--- ---- a row
-pub row-bytes : (id : ℕ) (locations carried : List ℕ) (collection : ℕ) → Bytes carried → id * 8 + 8 ≤ length carried → collection ≡ getAt (id * 8) (id * 8 + 8) carried
-    → bytesOf 8 id ++ (bytesOf 8 collection ++ bytesOf 8 (getD locations id 0)) ≡ rowBytes (entryFor 8 locations carried id)
-unfolding rowBytes
-row-bytes id locations carried collection b h e =
-    let c = part 8 carried id in
-    let n : length c ≡ 8 = length-part-full 8 carried id h in
-    let t : take 8 c ≡ bytesOf 8 collection = take-all 8 c (omega arith) ∙ sym (ap (bytesOf 8) e ∙ field-back (id * 8) (id * 8 + 8) 8 carried refl (omega arith) h b) in
-    let d : drop 8 c ≡ [] = drop-of-length-le c {i = 8} (omega arith) in
-    rw (t, d, append-nil (bytesOf 8 (getD locations id 0)))
-
-pub length-shownBytes : (r : Row) → length (shownBytes r) ≡ 24
-length-shownBytes r = simp (length-append, length-bytesOf)
-
-pub row-put : (b b₁ b₂ b₃ : List ℕ) (start id collection location : ℕ) → start + 24 ≤ length b → b₁ ≡ putAt start (start + 8) id b → b₂ ≡ putAt (start + 8) (start + 16) collection b₁
+-- ---- a row: three numbers, one after the other
+three-put : (b b₁ b₂ b₃ : List ℕ) (start id collection location : ℕ) → start + 24 ≤ length b → b₁ ≡ putAt start (start + 8) id b → b₂ ≡ putAt (start + 8) (start + 16) collection b₁
     → b₃ ≡ putAt (start + 16) (start + 24) location b₂
     → b₃ ≡ take start b ++ ((bytesOf 8 id ++ (bytesOf 8 collection ++ bytesOf 8 location)) ++ drop (start + 24) b)
-row-put b b₁ b₂ b₃ start id collection location h e₁ e₂ e₃ =
+three-put b b₁ b₂ b₃ start id collection location h e₁ e₂ e₃ =
     let p = take start b in
     let r = drop start b in
     let p₁ = p ++ bytesOf 8 id in
@@ -82,10 +72,64 @@ row-put b b₁ b₂ b₃ start id collection location h e₁ e₂ e₃ =
     ∙ ap (λ (x : List ℕ). x ++ drop (start + 24) b) (append-assoc p₁ (bytesOf 8 collection) (bytesOf 8 location) ∙ append-assoc p (bytesOf 8 id) (bytesOf 8 collection ++ bytesOf 8 location))
     ∙ append-assoc p (bytesOf 8 id ++ (bytesOf 8 collection ++ bytesOf 8 location)) (drop (start + 24) b)
 
+pub length-rowFor : (locations carried : List ℕ) (id : ℕ) → id * 80 + 80 ≤ length carried → length (rowBytes (entryFor 80 locations carried id)) ≡ 96
+length-rowFor locations carried id h = length-rowBytes (entryFor 80 locations carried id) ∙ omega (arith, length-part-full 80 carried id h)
+
+-- what a row carries, over the part of a block that it takes with the location before it
+pub row-over : (b carried : List ℕ) (start id : ℕ) (over : List ℕ) → start + 96 ≤ length b → id * 80 + 80 ≤ length carried
+    → over ≡ putRow 80 (take (start + 16 + 80 - (start + 16)) (drop (start + 16) b)) 0 (take (id * 80 + 80 - id * 80) (drop (id * 80) carried))
+    → putMid (start + 16) (start + 16 + 80 - (start + 16)) b over ≡ take (start + 16) b ++ (part 80 carried id ++ drop (start + 96) b)
+row-over b carried start id over h room e =
+    let c = part 80 carried id in
+    let n : length c ≡ 80 = length-part-full 80 carried id room in
+    let w : start + 16 + 80 - (start + 16) ≡ 80 = omega arith in
+    let m = take 80 (drop (start + 16) b) in
+    let k : length m ≡ 80 = length-take-le 80 (drop (start + 16) b) (rw (length-drop (start + 16) b) (omega arith)) in
+    let z : drop 80 m ≡ [] = drop-of-length-le m {i = 80} (omega arith) in
+    let e₂ : over ≡ putRow 80 m 0 c = rw (w, part-range 80 carried id) at e in
+    let o : over ≡ c = e₂ ∙ putRow-done 80 m 0 c (omega arith) n ∙ ap (λ (x : List ℕ). c ++ x) z ∙ append-nil c in
+    let s : start + 16 + 80 ≡ start + 96 = omega arith in
+    put-range b (start + 16) (start + 16 + 80) (omega arith) over ∙ ap (λ (x : List ℕ). take (start + 16) b ++ (x ++ drop (start + 16 + 80) b)) o
+    ∙ ap (λ (x : ℕ). take (start + 16) b ++ (c ++ drop x b)) s
+
+-- what it carries, put eight bytes too early, and the three numbers over its first eight bytes and what stands before
+pub row-put : (b b₁ b₂ b₃ b₄ locations carried : List ℕ) (start id collection : ℕ) → start + 96 ≤ length b → id * 80 + 80 ≤ length carried → Bytes carried
+    → b₁ ≡ take (start + 16) b ++ (part 80 carried id ++ drop (start + 96) b) → collection ≡ getAt (id * 80) (id * 80 + 8) carried
+    → b₂ ≡ putAt start (start + 8) id b₁ → b₃ ≡ putAt (start + 8) (start + 16) collection b₂ → b₄ ≡ putAt (start + 16) (start + 24) (getD locations id 0) b₃
+    → b₄ ≡ take start b ++ (rowBytes (entryFor 80 locations carried id) ++ drop (start + 96) b)
+unfolding rowBytes
+row-put b b₁ b₂ b₃ b₄ locations carried start id collection h room bytes e₁ ec e₂ e₃ e₄ =
+    let c = part 80 carried id in
+    let d = drop (id * 80) carried in
+    let p = take start b in
+    let q = take 16 (drop start b) in
+    let tail = drop (start + 96) b in
+    let location : ℕ = getD locations id 0 in
+    let n : length c ≡ 80 = length-part-full 80 carried id room in
+    let kp : length p ≡ start = length-take-le start b (omega arith) in
+    let kq : length q ≡ 16 = length-take-le 16 (drop start b) (rw (length-drop start b) (omega arith)) in
+    let kpq : length (p ++ q) ≡ start + 16 = length-append p q ∙ omega arith in
+    let f₁ : b₁ ≡ (p ++ q) ++ (c ++ tail) = e₁ ∙ ap (λ (x : List ℕ). x ++ (c ++ tail)) (take-add start 16 b) in
+    let room₁ : start + 24 ≤ length b₁ = rw (f₁, length-append (p ++ q) (c ++ tail), length-append c tail) (omega arith) in
+    let front : take start b₁ ≡ p = ap (take start) (f₁ ∙ append-assoc p q (c ++ tail)) ∙ take-at p (q ++ (c ++ tail)) start kp in
+    let eight : start + 16 + 8 ≡ start + 24 = omega arith in
+    let back : drop (start + 24) b₁ ≡ drop 8 c ++ tail =
+    ap (λ (x : ℕ). drop x b₁) (sym eight) ∙ sym (drop-drop 8 (start + 16) b₁)
+    ∙ ap (drop 8) (ap (drop (start + 16)) f₁ ∙ drop-at (p ++ q) (c ++ tail) (start + 16) kpq)
+    ∙ drop-append-le 8 c tail (omega arith) in
+    let t : bytesOf 8 collection ≡ take 8 c = ap (bytesOf 8) ec ∙ field-back (id * 80) (id * 80 + 8) 8 carried refl (omega arith) (omega arith) bytes ∙ sym (take-take 8 80 d (omega arith)) in
+    let x₁ = bytesOf 8 id in
+    let x₃ = bytesOf 8 location in
+    three-put b₁ b₂ b₃ b₄ start id collection location room₁ e₂ e₃ e₄
+    ∙ ap (λ (x : List ℕ). x ++ ((x₁ ++ (bytesOf 8 collection ++ x₃)) ++ drop (start + 24) b₁)) front
+    ∙ ap (λ (x : List ℕ). p ++ ((x₁ ++ (bytesOf 8 collection ++ x₃)) ++ x)) back
+    ∙ ap (λ (x : List ℕ). p ++ ((x₁ ++ (x ++ x₃)) ++ (drop 8 c ++ tail))) t
+    ∙ ap (λ (x : List ℕ). p ++ x) (simp append-assoc)
+
 -- ---- row after row: the first i of them stand after the head, what follows is as it was
 abbrev pub Laid : (ℕ → Entry) → List ℕ → List ℕ → ℕ → List ℕ → Type 0
 Laid e ids old i block =
-    (length (rowsBytes (map e (take i ids))) ≡ 24 * i) × (block ≡ take 8 old ++ (rowsBytes (map e (take i ids)) ++ drop (8 + 24 * i) old))
+    (length (rowsBytes (map e (take i ids))) ≡ 96 * i) × (block ≡ take 8 old ++ (rowsBytes (map e (take i ids)) ++ drop (8 + 96 * i) old))
 
 pub laid-start : (e : ℕ → Entry) (ids old : List ℕ) → Laid e ids old 0 old
 unfolding rowsBytes
@@ -100,31 +144,31 @@ map-snoc : (e : ℕ → Entry) (ids : List ℕ) (i : ℕ) → map e (ids ++ (i �
 map-snoc e [] i = refl
 map-snoc e (x ∷ ids) i = ap (λ (y : List Entry). e x ∷ y) (map-snoc e ids i)
 
-pub laid-turn : (e : ℕ → Entry) (ids old block after row : List ℕ) (i : ℕ) → i < length ids → 8 + 24 * i + 24 ≤ length old → Laid e ids old i block
-    → length row ≡ 24 → row ≡ rowBytes (e (getD ids i 0)) → after ≡ take (8 + 24 * i) block ++ (row ++ drop (8 + 24 * i + 24) block) → Laid e ids old (i + 1) after
+pub laid-turn : (e : ℕ → Entry) (ids old block after row : List ℕ) (i : ℕ) → i < length ids → 8 + 96 * i + 96 ≤ length old → Laid e ids old i block
+    → length row ≡ 96 → row ≡ rowBytes (e (getD ids i 0)) → after ≡ take (8 + 96 * i) block ++ (row ++ drop (8 + 96 * i + 96) block) → Laid e ids old (i + 1) after
 laid-turn e ids old block after row i h room laid n r a =
     let es = map e (take i ids) in
     let bs = rowsBytes es in
     let head = take 8 old in
-    let rest = drop (8 + 24 * i) old in
+    let rest = drop (8 + 96 * i) old in
     let now = map e (take (i + 1) ids) in
     let m : now ≡ es ++ (e (getD ids i 0) ∷ []) = ap (λ (x : ℕ). map e (take x ids)) (add-one i) ∙ ap (map e) (take-suc ids i 0 h) ∙ map-snoc e (take i ids) (getD ids i 0) in
     let s : rowsBytes now ≡ bs ++ row = ap rowsBytes m ∙ rowsBytes-snoc es (e (getD ids i 0)) ∙ ap (λ (x : List ℕ). bs ++ x) (sym r) in
     let k : length head ≡ 8 = length-take-le 8 old (omega arith) in
-    let kb : length (head ++ bs) ≡ 8 + 24 * i = length-append head bs ∙ omega (arith, laid .0) in
+    let kb : length (head ++ bs) ≡ 8 + 96 * i = length-append head bs ∙ omega (arith, laid .0) in
     let split : block ≡ (head ++ bs) ++ rest = laid .1 ∙ sym (append-assoc head bs rest) in
-    let t : take (8 + 24 * i) block ≡ head ++ bs = ap (take (8 + 24 * i)) split ∙ take-at (head ++ bs) rest (8 + 24 * i) kb in
-    let w : 8 + 24 * i + 24 ≡ 8 + 24 * (i + 1) = omega arith in
-    let d : drop (8 + 24 * i + 24) block ≡ drop (8 + 24 * (i + 1)) old =
-    sym (drop-drop 24 (8 + 24 * i) block) ∙ ap (drop 24) (ap (drop (8 + 24 * i)) split ∙ drop-at (head ++ bs) rest (8 + 24 * i) kb)
-    ∙ drop-drop 24 (8 + 24 * i) old ∙ ap (λ (x : ℕ). drop x old) w in
-    let tail = drop (8 + 24 * (i + 1)) old in (
+    let t : take (8 + 96 * i) block ≡ head ++ bs = ap (take (8 + 96 * i)) split ∙ take-at (head ++ bs) rest (8 + 96 * i) kb in
+    let w : 8 + 96 * i + 96 ≡ 8 + 96 * (i + 1) = omega arith in
+    let d : drop (8 + 96 * i + 96) block ≡ drop (8 + 96 * (i + 1)) old =
+    sym (drop-drop 96 (8 + 96 * i) block) ∙ ap (drop 96) (ap (drop (8 + 96 * i)) split ∙ drop-at (head ++ bs) rest (8 + 96 * i) kb)
+    ∙ drop-drop 96 (8 + 96 * i) old ∙ ap (λ (x : ℕ). drop x old) w in
+    let tail = drop (8 + 96 * (i + 1)) old in (
       ap length s ∙ length-append bs row ∙ omega (arith, laid .0),
-      a ∙ ap (λ (x : List ℕ). x ++ (row ++ drop (8 + 24 * i + 24) block)) t ∙ ap (λ (x : List ℕ). (head ++ bs) ++ (row ++ x)) d
+      a ∙ ap (λ (x : List ℕ). x ++ (row ++ drop (8 + 96 * i + 96) block)) t ∙ ap (λ (x : List ℕ). (head ++ bs) ++ (row ++ x)) d
           ∙ append-assoc head bs (row ++ tail) ∙ ap (λ (x : List ℕ). head ++ x) (sym (append-assoc bs row tail) ∙ ap (λ (x : List ℕ). x ++ tail) (sym s)),
     )
 
-pub laid-done : (e : ℕ → Entry) (ids old block : List ℕ) (i : ℕ) → i ≡ length ids → Laid e ids old i block → block ≡ take 8 old ++ (rowsBytes (map e ids) ++ drop (8 + 24 * length ids) old)
+pub laid-done : (e : ℕ → Entry) (ids old block : List ℕ) (i : ℕ) → i ≡ length ids → Laid e ids old i block → block ≡ take 8 old ++ (rowsBytes (map e ids) ++ drop (8 + 96 * length ids) old)
 laid-done e ids old block i h laid =
     let t : take i ids ≡ ids = take-all i ids (omega arith) in
     laid .1 ∙ rw (t, h)

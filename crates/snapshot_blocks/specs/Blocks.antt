@@ -1,4 +1,4 @@
--- Request 2026-01: the rows of a snapshot and their blocks of 512 bytes, over the format. Assumes nothing.
+-- Requests 2026-01 and 2026-06: the rows of a snapshot and their blocks of 512 bytes, over the format. Assumes nothing.
 use mathlib.Core.Bool.{Bool, true, false, not, cond, _&&_, _||_}
 use mathlib.Core.List.{List, [], _∷_, _++_}
 use Prim.Native.Nat.{ℕ, zero, suc, _+_, _-_, _*_, _/_, _≤_, _<_, min}
@@ -113,16 +113,19 @@ judgedIn f number last block = cond (eqb (length block) 512) (wrongIn f number l
 abbrev pub idAt : Format → ℕ → List ℕ → ℕ
 idAt f k block = getAt (8 + rowLength f * k) (8 + rowLength f * k + 8) block
 
--- ---- the row at a place of a block, as the reader shows it: what every format's row starts with
-abbrev pub shown : List ℕ → Row
-shown bytes = record { id = getAt 0 8 bytes; collection = getAt 8 16 bytes; location = getAt 16 24 bytes }
+-- ---- the row at a place of a block, as the reader shows it
+-- how long the key of a row is that these bytes start with; a format without keys has none
+abbrev pub keyLengthIn : Format → List ℕ → ℕ
+keyLengthIn f bytes = cond (ltb 8 (f .width)) (getAt 24 25 bytes) 0
 
-abbrev pub rowAt : Format → ℕ → List ℕ → Row
-rowAt f k block = shown (drop (8 + rowLength f * k) block)
+-- the row that these bytes start with, and where its key stands
+abbrev pub shown : Format → ℕ → List ℕ → Row
+shown f key bytes =
+    record { id = getAt 0 8 bytes; collection = getAt 8 16 bytes; location = getAt 16 24 bytes; key = key; length = keyLengthIn f bytes }
 
--- the bytes of such a row, where it carries no more
-abbrev pub shownBytes : Row → List ℕ
-shownBytes r = bytesOf 8 (r .id) ++ (bytesOf 8 (r .collection) ++ bytesOf 8 (r .location))
+-- the key comes after three numbers and its length, in the block that starts at `base`
+abbrev pub rowAt : Format → ℕ → ℕ → List ℕ → Row
+rowAt f base k block = shown f (base + (8 + rowLength f * k + 25)) (drop (8 + rowLength f * k) block)
 
 -- ---- when rows of the tables can be written to a block, by the lengths of both
 -- how many ids have a row in both tables

@@ -19,6 +19,7 @@ use Rattle.snapshot_blocks.specs.Valid.{All, Valid}
 use Rattle.snapshot_blocks.proofs.Blocks.{Right, length-rowsInBlock, valid-rowsInBlock, blockOf-rowsInBlock, isCount-perBlock}
 use Rattle.snapshot_blocks.specs.Files.{fileFrom}
 use Rattle.snapshot.specs.Snapshot.{blockAt, follows}
+use Rattle.snapshot_lists.proofs.Versions.{follows-id}
 use Rattle.snapshot_laws.proofs.Lists.{none, all-append, ascending-append}
 use Rattle.snapshot_laws.proofs.Files.{Fit, idAt-rowsInBlock}
 
@@ -41,11 +42,10 @@ positive (suc n) h = omega arith
 
 joined-ids : (f : Format) (t u : List ℕ) (s : List Entry) → 0 < perBlock f → length (rowsInBlock f t) ≡ perBlock f → length (rowsInBlock f t) ≡ countIn t → follows f t u ≡ true
     → 0 < countIn u → getD s 0 none ≡ getD (rowsInBlock f u) 0 none → getD (rowsInBlock f t) (length (rowsInBlock f t) - 1) none .id < getD s 0 none .id
-unfolding follows
 joined-ids f t u s p l c o k q =
     let a = idAt-rowsInBlock f (perBlock f - 1) t (omega arith) in
     let b = idAt-rowsInBlock f 0 u k in
-    let h : idAt f (perBlock f - 1) t < idAt f 0 u = ltb-true (idAt f (perBlock f - 1) t) (idAt f 0 u) o in
+    let h : idAt f (perBlock f - 1) t < idAt f 0 u = ltb-true (idAt f (perBlock f - 1) t) (idAt f 0 u) (follows-id f t u o) in
     rw (l, q, ← a, ← b) h
 
 -- all blocks of a file are right, the first of them at `number`

@@ -1,10 +1,13 @@
 pub mod Lists
 pub mod Files
 pub mod Written
+pub mod Keys
 pub mod Steps
 pub mod Back
 pub mod Exact
 pub mod Read
+pub mod Apart
+pub mod Entries
 pub mod Lent
 pub mod Taken
 pub mod Ends

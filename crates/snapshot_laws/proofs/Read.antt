@@ -1,6 +1,6 @@
 -- What is read was written: a file that reads to its end is the file of the rows that it shows. Assumes nothing.
 use mathlib.Core.Bool.{Bool, true, false, not, cond, _&&_}
-use mathlib.Core.Path.{_≡_, refl, sym, ap, _∙_}
+use mathlib.Core.Path.{_≡_, refl, sym, ap, subst, _∙_}
 use mathlib.Core.List.{List, map}
 use mathlib.Core.Logic.{_⊎_, inl, inr}
 use Prim.Native.Nat.{ℕ, suc, _+_, _-_, _*_, _/_, _^_, _≤_, _<_}
@@ -12,24 +12,26 @@ use borrow.Author.Tests.{eqb-true, eqb-false, eq-eqb, ne-eqb}
 use Rattle.little_endian.specs.LittleEndian.{word, Bytes}
 use Rattle.little_endian.proofs.Laws.{take-bytes, drop-bytes, word-fits}
 use Rattle.refusal.specs.Refusals.{refusal}
-use Rattle.snapshot_blocks.specs.Blocks.{countIn, numberIn, wrongIn, rowAt}
-use Rattle.snapshot_blocks.specs.Formats.{Format, perBlock}
+use Rattle.snapshot_blocks.specs.Blocks.{Entry, ascending, countIn, numberIn, versionIn, rowAt}
+use Rattle.snapshot_blocks.specs.Formats.{Format, Reader, perBlock}
 use Rattle.snapshot_blocks.specs.declared.Row.{Row}
-use Rattle.snapshot_blocks.specs.Valid.{Sound}
+use Rattle.snapshot_blocks.specs.Valid.{Sound, Valid, All}
 use Rattle.snapshot_blocks.proofs.Fields.{getAt-part}
+use Rattle.snapshot_blocks.proofs.Blocks.{perBlock-some}
 use Rattle.snapshot.specs.declared.Position.{Position}
 use Rattle.snapshot.specs.declared.Step.{Step}
 use Rattle.snapshot.specs.declared.Step.the-variants as S
 use Rattle.snapshot_blocks.specs.Files.{fileFrom, fileOf}
-use Rattle.snapshot.specs.Snapshot.{blockAt, isPlace, isLast, follows, wrongAt, nextPosition, stepIn, stepOf}
+use Rattle.snapshot.specs.Snapshot.{blockAt, isPlace, isLast, wrongAt, nextPosition, stepIn, stepOf, formatAt, wrongBy, stepBy}
 use Rattle.snapshot.proofs.Turns.{isPlace-place, wrongAt-good}
 use Rattle.snapshot_lists.proofs.Turns.{at-or-past}
-use Rattle.snapshot_laws.specs.Reading.{Was, shownOf, position, Reads, ended, showed}
-use Rattle.snapshot_laws.specs.Statements.{Further}
+use Rattle.snapshot_lists.proofs.Versions.{wrongAt-joined, known-first, same-format}
+use Rattle.snapshot_laws.specs.Reading.{Shown, shownOf, position, Reads, ended, showed, Knows}
+use Rattle.snapshot_laws.specs.Statements.{ReadExactly, Further}
+use Rattle.snapshot_laws.proofs.Files.{Fit}
 use Rattle.snapshot_laws.proofs.Steps.{block-length}
 use Rattle.snapshot_laws.proofs.Back.{reads-from}
 use Rattle.snapshot_laws.proofs.Exact.{Rights, Follow, rowsFrom, fileFrom-rowsFrom, valid-rowsFrom, fit-rowsFrom, ascending-rowsFrom, fit-unique}
-use Rattle.snapshot_blocks.proofs.Blocks.{perBlock-some}
 
 -- ---- a step that refuses nothing stands at a block that is right
 step-good : (f : Format) (number row : ℕ) (file : List ℕ) (s : Step) → stepOf f number row file ≡ s → ((r : _) → s ≡ S.Refused r → ⊥)
@@ -47,7 +49,7 @@ stepIn-end : (f : Format) (number row : ℕ) (last : Bool) (block : List ℕ) �
 unfolding stepIn
 stepIn-end f number row last block e = by (ltb row (countIn block)) last (eqb row (countIn block)) e
   where
-    by : (a b d : Bool) → cond a (S.Row (rowAt f row block) (nextPosition number row (countIn block) last)) (cond (b && d) S.End (S.Refused (refusal 1 number))) ≡ S.End → b ≡ true
+    by : (a b d : Bool) → cond a (S.Row (rowAt f (512 * number) row block) (nextPosition number row (countIn block) last)) (cond (b && d) S.End (S.Refused (refusal 1 number))) ≡ S.End → b ≡ true
     by false true d e = refl
     by true b d e = let z : _≡_ {A = ℕ} 0 1 = cc in absurd (omega arith)
     by false false d e = let z : _≡_ {A = ℕ} 0 1 = cc in absurd (omega arith)
@@ -56,7 +58,7 @@ stepIn-row : (f : Format) (number row : ℕ) (last : Bool) (block : List ℕ) (r
 unfolding stepIn
 stepIn-row f number row last block r at e = by (ltb row (countIn block)) (last && eqb row (countIn block)) e
   where
-    by : (a b : Bool) → cond a (S.Row (rowAt f row block) (nextPosition number row (countIn block) last)) (cond b S.End (S.Refused (refusal 1 number))) ≡ S.Row r at → at ≡ nextPosition number row (countIn block) last
+    by : (a b : Bool) → cond a (S.Row (rowAt f (512 * number) row block) (nextPosition number row (countIn block) last)) (cond b S.End (S.Refused (refusal 1 number))) ≡ S.Row r at → at ≡ nextPosition number row (countIn block) last
     by true b e = cc
     by false true e = let z : _≡_ {A = ℕ} 0 1 = cc in absurd (omega arith)
     by false false e = let z : _≡_ {A = ℕ} 0 1 = cc in absurd (omega arith)
@@ -75,7 +77,8 @@ nextPosition-further number row count last = by (ltb (row + 1) count) last
     by false false = inr refl
 
 pub step-further : Further
-step-further f number row file r at e =
+step-further reader number row file r at e =
+    let f = formatAt reader number file in
     let g = step-good f number row file (S.Row r at) e (λ x p. let z : _≡_ {A = ℕ} 0 1 = cc in omega arith) in
     rw (stepIn-row f number row (isLast number file) (blockAt number file) r at (g .1)) (nextPosition-further number row (countIn (blockAt number file)) (isLast number file))
 
@@ -83,39 +86,41 @@ block-le : (number row : ℕ) (to : Position) → (to ≡ position number (row +
 block-le number row to (inl e) = rw e (omega arith)
 block-le number row to (inr e) = rw e (omega arith)
 
-module _ (f : Format) (file : List ℕ) where
+module _ (reader : Reader) (file : List ℕ) where
   -- ---- every block from the position on is right
-  reads-good : (at : Position) (rs : List Row) → Reads f file S.End at rs → (i : ℕ) → at .block ≤ i → i < length file / 512 → wrongAt f i file ≡ 0
+  reads-good : (at : Position) (rs : List Shown) → Reads reader file S.End at rs → (i : ℕ) → at .block ≤ i → i < length file / 512 → wrongBy reader i file ≡ 0
   reads-good _ _ (ended at e) i l h =
+      let f = formatAt reader (at .block) file in
       let g = step-good f (at .block) (at .row) file S.End e (λ r q. let z : _≡_ {A = ℕ} 0 1 = cc in omega arith) in
       let t : isLast (at .block) file ≡ true = stepIn-end f (at .block) (at .row) (isLast (at .block) file) (blockAt (at .block) file) (g .1) in
       let n : 512 * at .block + 512 ≡ length file = eqb-true (512 * at .block + 512) (length file) t in
       let s : i ≡ at .block = omega arith in
       rw s (g .0)
   reads-good _ _ (showed at to r rs e q) i l h =
+      let f = formatAt reader (at .block) file in
       let g = step-good f (at .block) (at .row) file (S.Row r to) e (λ x p. let z : _≡_ {A = ℕ} 0 1 = cc in omega arith) in
-      let m : to .block ≤ at .block + 1 = block-le (at .block) (at .row) to (step-further f (at .block) (at .row) file r to e) in
+      let m : to .block ≤ at .block + 1 = block-le (at .block) (at .row) to (step-further reader (at .block) (at .row) file r to e) in
       at-or-past (at .block) i l (λ s. rw s (g .0)) (λ s. reads-good to rs q i (omega arith) h)
 
   -- ---- a reading is one
-  pub reads-same : (at at′ : Position) (rs ss : List Row) → at ≡ at′ → Reads f file S.End at rs → Reads f file S.End at′ ss → rs ≡ ss
+  pub reads-same : (at at′ : Position) (rs ss : List Shown) → at ≡ at′ → Reads reader file S.End at rs → Reads reader file S.End at′ ss → rs ≡ ss
   reads-same _ _ _ _ p (ended at e) (ended at′ e′) = refl
   reads-same _ _ _ _ p (ended at e) (showed at′ to r ss e′ q) =
-      let s : stepOf f (at .block) (at .row) file ≡ stepOf f (at′ .block) (at′ .row) file = ap (λ (x : Position). stepOf f (x .block) (x .row) file) p in
+      let s : stepBy reader (at .block) (at .row) file ≡ stepBy reader (at′ .block) (at′ .row) file = ap (λ (x : Position). stepBy reader (x .block) (x .row) file) p in
       let z : _≡_ {A = ℕ} 0 1 = cc in absurd (omega arith)
   reads-same _ _ _ _ p (showed at to r rs e q) (ended at′ e′) =
-      let s : stepOf f (at .block) (at .row) file ≡ stepOf f (at′ .block) (at′ .row) file = ap (λ (x : Position). stepOf f (x .block) (x .row) file) p in
+      let s : stepBy reader (at .block) (at .row) file ≡ stepBy reader (at′ .block) (at′ .row) file = ap (λ (x : Position). stepBy reader (x .block) (x .row) file) p in
       let z : _≡_ {A = ℕ} 0 1 = cc in absurd (omega arith)
   reads-same _ _ _ _ p (showed at to r rs e q) (showed at′ to′ r′ ss e′ q′) =
-      let s : stepOf f (at .block) (at .row) file ≡ stepOf f (at′ .block) (at′ .row) file = ap (λ (x : Position). stepOf f (x .block) (x .row) file) p in
+      let s : stepBy reader (at .block) (at .row) file ≡ stepBy reader (at′ .block) (at′ .row) file = ap (λ (x : Position). stepBy reader (x .block) (x .row) file) p in
       let same : r ≡ r′ = cc in
       let there : to ≡ to′ = cc in
       let rest : rs ≡ ss = reads-same to to′ rs ss there q q′ in
       rw (same, rest)
 
-  reads-first : (at : Position) (rs : List Row) → Reads f file S.End at rs → wrongAt f (at .block) file ≡ 0
-  reads-first _ _ (ended at e) = step-good f (at .block) (at .row) file S.End e (λ r q. let z : _≡_ {A = ℕ} 0 1 = cc in omega arith) .0
-  reads-first _ _ (showed at to r rs e q) = step-good f (at .block) (at .row) file (S.Row r to) e (λ x p. let z : _≡_ {A = ℕ} 0 1 = cc in omega arith) .0
+  reads-first : (at : Position) (rs : List Shown) → Reads reader file S.End at rs → wrongBy reader (at .block) file ≡ 0
+  reads-first _ _ (ended at e) = step-good (formatAt reader (at .block) file) (at .block) (at .row) file S.End e (λ r q. let z : _≡_ {A = ℕ} 0 1 = cc in omega arith) .0
+  reads-first _ _ (showed at to r rs e q) = step-good (formatAt reader (at .block) file) (at .block) (at .row) file (S.Row r to) e (λ x p. let z : _≡_ {A = ℕ} 0 1 = cc in omega arith) .0
 
 -- ---- the last block, told by its number
 last-same : (j left len : ℕ) → len ≡ 512 * left + 512 → eqb (512 * j + 512) len ≡ eqb j left
@@ -125,73 +130,76 @@ last-same j left len n = by (eqb j left) refl
     by true p = let e : j ≡ left = eqb-true j left p in eq-eqb (512 * j + 512) len (omega arith)
     by false p = ne-eqb (512 * j + 512) len (λ e. eqb-false j left p (omega arith))
 
-wrongAt-joined : (f : Format) (j : ℕ) (file : List ℕ) → wrongAt f (suc j) file ≡ 0 → follows f (blockAt j file) (blockAt (suc j) file) ≡ true
-unfolding wrongAt
-wrongAt-joined f j file e =
-    by (isPlace (suc j) (length file)) (eqb (wrongIn f (suc j) (isLast (suc j) file) (blockAt (suc j) file)) 0) (follows f (blockAt j file) (blockAt (suc j) file)) refl (rw (s, z) at e)
-  where
-    s : suc j - 1 ≡ j
-    s = omega arith
-
-    z : eqb (suc j) 0 ≡ false
-    z = ne-eqb (suc j) 0 (λ x. omega arith)
-
-    by : (a b t : Bool) → eqb (wrongIn f (suc j) (isLast (suc j) file) (blockAt (suc j) file)) 0 ≡ b
-        → cond (not a) 1 (cond (not b) (wrongIn f (suc j) (isLast (suc j) file) (blockAt (suc j) file)) (cond t 0 19)) ≡ 0 → t ≡ true
-    by true true true q e = refl
-    by true true false q e = absurd (omega arith)
-    by true false t q e = absurd (eqb-false _ _ q e)
-    by false b t q e = absurd (omega arith)
-
-reads-on : (f : Format) (l m : List ℕ) (at : Position) (rs : List Row) → l ≡ m → Reads f m S.End at rs → Reads f l S.End at rs
-reads-on f l m at rs e q = rw e q
-
-module _ (f : Format) (s : Sound f) (file : List ℕ) (b : Bytes file) (rs : List Row) (q : Reads f file S.End (position 0 0) rs) where
-  abbrev left : ℕ
+-- ---- a file whose blocks are right by one format is what writing its rows gives
+module _ (f : Format) (s : Sound f) (file : List ℕ) (b : Bytes file) (p : isPlace 0 (length file) ≡ true) (good : (j : ℕ) → j < length file / 512 → wrongAt f j file ≡ 0) where
+  abbrev pub left : ℕ
   left = length file / 512 - 1
 
-  good : (j : ℕ) → j ≤ left → wrongAt f j file ≡ 0
-  good j h =
-      let p = isPlace-place 0 (length file) (wrongAt-good f 0 file (reads-first f file (position 0 0) rs q) .place) in
-      reads-good f file (position 0 0) rs q j (omega arith) (omega (arith, p .within))
+  abbrev pub rows : List Entry
+  rows = rowsFrom f left file
+
+  good-to : (j : ℕ) → j ≤ left → wrongAt f j file ≡ 0
+  good-to j h = let q = isPlace-place 0 (length file) p in good j (omega (arith, q .within))
 
   size : length file ≡ 512 * left + 512
-  size = let p = isPlace-place 0 (length file) (wrongAt-good f 0 file (reads-first f file (position 0 0) rs q) .place) in omega (arith, p .whole, p .within)
+  size = let q = isPlace-place 0 (length file) p in omega (arith, q .whole, q .within)
 
   rights : Rights f 0 left file
   rights j h =
       let z : 0 + j ≡ j = omega arith in
-      rw z (rw (last-same j left (length file) size) at (wrongAt-good f j file (good j h) .right))
+      rw z (rw (last-same j left (length file) size) at (wrongAt-good f j file (good-to j h) .right))
 
-  few : left < 2 ^ 32
+  pub few : left < 2 ^ 32
   few =
       let t = take 4 (blockAt left file) in
       let k : length t ≤ 4 = rw (length-take 4 (blockAt left file)) (omega arith) in
-      let n : length (blockAt left file) ≡ 512 = block-length f s file left (good left (omega arith)) in
+      let n : length (blockAt left file) ≡ 512 = block-length f s file left (good-to left (omega arith)) in
       let e : numberIn (blockAt left file) ≡ word t = getAt-part 0 4 4 (blockAt left file) refl (omega arith) (omega arith) in
       let lt : word t < 256 ^ 4 = word-fits 4 t (take-bytes 4 (blockAt left file) (take-bytes 512 (drop (512 * left) file) (drop-bytes (512 * left) file b))) k in
-      let m : numberIn (blockAt left file) ≡ left = wrongAt-good f left file (good left (omega arith)) .right .numbered in
+      let m : numberIn (blockAt left file) ≡ left = wrongAt-good f left file (good-to left (omega arith)) .right .numbered in
       omega arith
 
-  -- a file that reads to its end is what writing some rows gives, and shows these
-  pub was-written : Was f file rs
+  pub fit-rows : Fit f left rows
+  fit-rows = fit-rowsFrom f (s .wide) left file size b rights
+
+  pub valid-rows : All (Valid f) rows
+  valid-rows = valid-rowsFrom f (s .wide) left 0 file size b rights
+
+  pub ordered-rows : ascending rows ≡ true
+  ordered-rows =
+      let follow : Follow f (s .wide) left file = λ j h. wrongAt-joined f j file (good-to (suc j) h) in
+      ascending-rowsFrom f (s .wide) left 0 file (perBlock-some f (s .narrow)) size b rights follow
+
+  pub file-rowsFrom : file ≡ fileFrom f 0 left rows
+  file-rowsFrom = fileFrom-rowsFrom f (s .wide) left 0 file size b rights
+
+  pub file-written : file ≡ fileOf f rows
   unfolding fileOf
-  was-written =
-      let w = s .wide in
-      let p = perBlock-some f (s .narrow) in
-      let rows = rowsFrom f left file in
-      let follow : Follow f w left file = λ j h. wrongAt-joined f j file (good (suc j) h) in
-      let fit = fit-rowsFrom f w left file size b rights in
-      let valid = valid-rowsFrom f w left 0 file size b rights in
-      let ordered = ascending-rowsFrom f w left 0 file p size b rights follow in
-      let e : file ≡ fileFrom f 0 left rows = fileFrom-rowsFrom f w left 0 file size b rights in
-      let u : (length rows - 1) / perBlock f ≡ left = fit-unique f left rows p fit in
-      let again : Reads f file S.End (position 0 0) (map shownOf rows) =
-      reads-on f file (fileFrom f 0 left rows) (position 0 0) (map shownOf rows) e (rw (mul-zero (perBlock f)) at (reads-from f s left few rows fit valid ordered left 0 (omega arith))) in
-      record {
-        rows = rows;
-        valid = valid;
-        ordered = ordered;
-        written = e ∙ ap (λ (x : ℕ). fileFrom f 0 x rows) (sym u);
-        read = reads-same f file (position 0 0) (position 0 0) rs (map shownOf rows) refl q again;
-      }
+  file-written =
+      let u : (length rows - 1) / perBlock f ≡ left = fit-unique f left rows (perBlock-some f (s .narrow)) fit-rows in
+      file-rowsFrom ∙ ap (λ (x : ℕ). fileFrom f 0 x rows) (sym u)
+
+  -- and every reader that knows the format shows them
+  pub reads-rows : (reader : Reader) → Knows reader f → Reads reader file S.End (position 0 0) (map shownOf rows)
+  reads-rows reader known =
+      subst (λ (x : List ℕ). Reads reader x S.End (position 0 0) (map shownOf rows)) (sym file-rowsFrom)
+      (rw (mul-zero (perBlock f)) at (reads-from f s left few rows fit-rows valid-rows ordered-rows reader known left 0 (omega arith)))
+
+-- ---- a file that reads to its end is what writing some rows gives, and shows these
+pub was-written : ReadExactly
+was-written reader sound file b rs q =
+    let f = formatAt reader 0 file in
+    let s = sound (versionIn (blockAt 0 file)) in
+    let first : wrongBy reader 0 file ≡ 0 = reads-first reader file (position 0 0) rs q in
+    let p = wrongAt-good f 0 file first .place in
+    let known : Knows reader f = known-first reader file first in
+    let good : (j : ℕ) → j < length file / 512 → wrongAt f j file ≡ 0 = λ j h. same-format reader file j (λ i l. reads-good reader file (position 0 0) rs q i (omega arith) (omega arith)) in
+    record {
+      format = f;
+      known = known;
+      rows = rows f s file b p good;
+      valid = valid-rows f s file b p good;
+      ordered = ordered-rows f s file b p good;
+      written = file-written f s file b p good;
+      read = reads-same reader file (position 0 0) (position 0 0) rs (map shownOf (rows f s file b p good)) refl q (reads-rows f s file b p good reader known);
+    }

@@ -9,7 +9,8 @@ use lib.Dec.{eqb, ltb}
 use lib.ListN.{length, getD, drop, length-take, length-drop}
 use lib.Seq.{getD-take, getD-drop}
 use borrow.Author.Tests.{le-leb, eqb-true, eqb-false, eq-eqb, ltb-true, ltb-false, lt-ltb}
-use Rattle.snapshot_blocks.specs.Blocks.{Entry, blockOf, countIn, rowsInBlock, isCount, ascending, idAt}
+use Rattle.refusal.proofs.Tests.{all}
+use Rattle.snapshot_blocks.specs.Blocks.{Entry, blockOf, countIn, versionIn, rowsInBlock, isCount, ascending, idAt}
 use Rattle.snapshot_blocks.specs.Formats.{Format, perBlock}
 use Rattle.snapshot_blocks.specs.Valid.{Sound, All, Valid}
 use Rattle.snapshot_blocks.proofs.Rows.{all-wide}
@@ -111,7 +112,9 @@ module _ (f : Format) (s : Sound f) (left : ℕ) (big : left < 2 ^ 32) (rows : L
       let n : suc m < length rows = omega arith in
       let a₁ = file-id i (per - 1) (omega arith) (omega arith) in
       let a₂ = file-id (suc i) 0 h (omega arith) in
-      lt-ltb (idAt f (per - 1) (blockAt i file)) (idAt f 0 (blockAt (suc i) file)) (rw (a₁, a₂, ← e₂) (ascending-next rows m n o))
+      let v = file-right i (omega arith) .versioned in
+      all (eq-eqb (versionIn (blockAt i file)) (f .version) v)
+      (lt-ltb (idAt f (per - 1) (blockAt i file)) (idAt f 0 (blockAt (suc i) file)) (rw (a₁, a₂, ← e₂) (ascending-next rows m n o)))
 
   pub good-fileFrom : (j : ℕ) → j ≤ left → wrongAt f j file ≡ 0
   good-fileFrom j h =

@@ -3,9 +3,10 @@ use mathlib.Core.Bool.{true}
 use mathlib.Core.Path.{_≡_}
 use mathlib.Core.List.{List, [], _∷_, _++_, map}
 use Prim.Native.Nat.{ℕ}
-use lib.ListN.{take}
+use lib.ListN.{take, drop}
 use Rattle.little_endian.specs.LittleEndian.{word}
-use Rattle.snapshot_blocks.specs.Formats.{Format}
+use Rattle.keys.specs.Keys.{keyOf, brought}
+use Rattle.snapshot_blocks.specs.Formats.{Format, Reader}
 use Rattle.snapshot_blocks.specs.Blocks.{Entry, ascending}
 use Rattle.snapshot_blocks.specs.Valid.{Valid, All}
 use Rattle.snapshot_blocks.specs.declared.Row.{Row}
@@ -13,37 +14,54 @@ use Rattle.snapshot.specs.declared.Position.{Position}
 use Rattle.snapshot.specs.declared.Step.{Step}
 use Rattle.snapshot.specs.declared.Step.the-variants as S
 use Rattle.snapshot_blocks.specs.Files.{fileOf}
-use Rattle.snapshot.specs.Snapshot.{stepOf}
+use Rattle.snapshot.specs.Snapshot.{stepBy}
 
--- a row as the reader shows it
-abbrev pub shownOf : Entry → Row
-shownOf e = record { id = e .id; collection = word (take 8 (e .carried)); location = e .location }
+-- what a user sees of a row: its numbers, and the bytes of its key
+pub record Shown : Type 0 where
+  pub id : ℕ
+  pub collection : ℕ
+  pub location : ℕ
+  pub key : List ℕ
+
+-- of a row that the reader shows: the key stands in the file where it says
+abbrev pub seenIn : List ℕ → Row → Shown
+seenIn file r = record { id = r .id; collection = r .collection; location = r .location; key = take (r .length) (drop (r .key) file) }
+
+-- and of a row that was written
+abbrev pub shownOf : Entry → Shown
+shownOf e = record { id = e .id; collection = word (take 8 (e .carried)); location = e .location; key = keyOf (e .carried) }
 
 abbrev pub position : ℕ → ℕ → Position
 position block row = record { block = block; row = row }
 
--- the steps from a position give these rows, and then the step that is `stop`: the end, or a refusal, in the laws
-pub data Reads (f : Format) (file : List ℕ) (stop : Step) : Position → List Row → Type 0 where
-  ended : (at : Position) → stepOf f (at .block) (at .row) file ≡ stop → Reads f file stop at []
-  showed : (at next : Position) (r : Row) (rs : List Row) → stepOf f (at .block) (at .row) file ≡ S.Row r next → Reads f file stop next rs
-      → Reads f file stop at (r ∷ rs)
+-- the steps from a position show these rows, and then comes the step that is `stop`: the end, or a refusal, in the laws
+pub data Reads (reader : Reader) (file : List ℕ) (stop : Step) : Position → List Shown → Type 0 where
+  ended : (at : Position) → stepBy reader (at .block) (at .row) file ≡ stop → Reads reader file stop at []
+  showed : (at next : Position) (r : Row) (rs : List Shown) → stepBy reader (at .block) (at .row) file ≡ S.Row r next → Reads reader file stop next rs
+      → Reads reader file stop at (seenIn file r ∷ rs)
 
--- the rows that a file was written from, where it shows these
-pub record Was (f : Format) (file : List ℕ) (rs : List Row) : Type 0 where
+-- a reader knows the version of this format
+abbrev pub Knows : Reader → Format → Type 0
+Knows reader f = reader (f .version) ≡ f
+
+-- the format and the rows that a file was written from, where it shows these
+pub record Was (reader : Reader) (file : List ℕ) (rs : List Shown) : Type 0 where
+  pub format : Format
+  pub known : Knows reader format
   pub rows : List Entry
-  pub valid : All (Valid f) rows
+  pub valid : All (Valid format) rows
   pub ordered : ascending rows ≡ true
-  pub written : file ≡ fileOf f rows
+  pub written : file ≡ fileOf format rows
   pub read : rs ≡ map shownOf rows
 
 -- the steps from a position stop, and not at a row
-pub record Ends (f : Format) (file : List ℕ) (at : Position) : Type 0 where
+pub record Ends (reader : Reader) (file : List ℕ) (at : Position) : Type 0 where
   pub stop : Step
-  pub rows : List Row
-  pub reads : Reads f file stop at rows
+  pub rows : List Shown
+  pub reads : Reads reader file stop at rows
   pub final : (r : Row) (next : Position) → stop ≡ S.Row r next → ⊥
 
--- what the rows carry, one after the other
-unfoldable pub carriedBy : List Entry → List ℕ
-carriedBy [] = []
-carriedBy (e ∷ es) = e .carried ++ carriedBy es
+-- what the rows carry, one after the other, as a rebuild takes it
+unfoldable pub broughtBy : List Entry → List ℕ
+broughtBy [] = []
+broughtBy (e ∷ es) = brought (e .carried) ++ broughtBy es

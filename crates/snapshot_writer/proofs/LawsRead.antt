@@ -13,7 +13,7 @@ use Rattle.refusal.specs.Refusals.{wrongShape, batchOpen}
 use Rattle.refusal.specs.declared.Refusal.{Refusal}
 use Rattle.refusal.specs.declared.Judged.{Judged}
 use Rattle.refusal.specs.declared.Judged.the-variants as J
-use Rattle.snapshot_blocks.specs.Formats.{version1}
+use Rattle.snapshot_blocks.specs.Formats.{version2}
 use Rattle.snapshot_blocks.specs.Blocks.{entryFor}
 use Rattle.snapshot_blocks.specs.Files.{fileOf, fileLength}
 use Rattle.model.specs.Store.{ask, snapshotLength, snapshot, gave, wrote}
@@ -46,7 +46,7 @@ module _ (m : Memory) where
   picked = thoseFrom (storedIn (m .ids) (m .idMarks) (m .locations) (m .tallies)) (m .ids) 0
 
   abbrev pub pickedFile : List ℕ
-  pickedFile = fileOf version1 (map (entryFor 8 (m .locations) (m .carried)) picked)
+  pickedFile = fileOf version2 (map (entryFor 80 (m .locations) (m .carried)) picked)
 
   picked-read : thoseFrom (isStored (read m)) (m .ids) 0 ≡ picked
   unfolding storedIn heldIn read
@@ -61,9 +61,9 @@ module _ (m : Memory) where
 
   -- ---- the length
   pub length-answer : answer (read m) (ask snapshotLength)
-      ≡ answerBy (test (not (fits storedTables m)) wrongShape 0 ⨾ test (ltb 0 (getD (m .batch) 0 0)) batchOpen 0) (gave (fileLength version1 (length picked)))
+      ≡ answerBy (test (not (fits storedTables m)) wrongShape 0 ⨾ test (ltb 0 (getD (m .batch) 0 0)) batchOpen 0) (gave (fileLength version2 (length picked)))
   unfolding answer refusal refusalOf askRefusal grant reply read
-  length-answer = λ k. answerBy (shape-read (ask snapshotLength) m k ⨾ test (ltb 0 (getD (m .batch) 0 0)) batchOpen 0) (gave (fileLength version1 (length (picked-read k))))
+  length-answer = λ k. answerBy (shape-read (ask snapshotLength) m k ⨾ test (ltb 0 (getD (m .batch) 0 0)) batchOpen 0) (gave (fileLength version2 (length (picked-read k))))
 
   pub length-shape : (r : Refusal) → r ≡ record { number = wrongShape; index = 0 } → fits storedTables m ≡ false → refused (r .number) (r .index) ≡ answer (read m) (ask snapshotLength)
   unfolding test _⨾_
@@ -73,7 +73,7 @@ module _ (m : Memory) where
   unfolding test _⨾_
   length-open r e f o = rw (e, length-answer, f, opened (getD (m .batch) 0 0) o)
 
-  pub length-done : (long rows : ℕ) → long ≡ fileLength version1 rows → rows ≡ length picked → fits storedTables m ≡ true → getD (m .batch) 0 0 ≡ 0 → granted (gave long) ≡ answer (read m) (ask snapshotLength)
+  pub length-done : (long rows : ℕ) → long ≡ fileLength version2 rows → rows ≡ length picked → fits storedTables m ≡ true → getD (m .batch) 0 0 ≡ 0 → granted (gave long) ≡ answer (read m) (ask snapshotLength)
   unfolding test _⨾_
   length-done long rows l r f o = rw (length-answer, f, none-opened (getD (m .batch) 0 0) o, l, r)
 
@@ -86,17 +86,17 @@ module _ (m : Memory) where
   owned-read f = λ k. λ i. badIn-read m i (getD (m .locations) i 0) (fits-range everyTable m f .slots-good) (fits-slot-marks everyTable m f) k
 
   abbrev pub later : (ℕ → Bool) → List ℕ → Verdict
-  later bad file = test (not (eqb (length file) (fileLength version1 (length picked)))) wrongShape 0 ⨾ test (ltb 0 (getD (m .batch) 0 0)) batchOpen 0 ⨾ snapshotRows bad 0 picked
+  later bad file = test (not (eqb (length file) (fileLength version2 (length picked)))) wrongShape 0 ⨾ test (ltb 0 (getD (m .batch) 0 0)) batchOpen 0 ⨾ snapshotRows bad 0 picked
 
   write-refusal : (file : List ℕ) → refusal (read m) (ask (snapshot file)) ≡ (test (not (fits everyTable m)) wrongShape 0 ⨾ later (badLocation (read m)) file)
   unfolding refusal refusalOf askRefusal read
   write-refusal file = λ k.
-      shape-read (ask (snapshot file)) m k ⨾ test (not (eqb (length file) (fileLength version1 (length (picked-read k))))) wrongShape 0 ⨾
+      shape-read (ask (snapshot file)) m k ⨾ test (not (eqb (length file) (fileLength version2 (length (picked-read k))))) wrongShape 0 ⨾
       test (ltb 0 (getD (m .batch) 0 0)) batchOpen 0 ⨾ snapshotRows (badLocation (read m)) 0 (picked-read k)
 
   write-grant : (file : List ℕ) → grant (read m) (ask (snapshot file)) ≡ wrote pickedFile
   unfolding grant reply read
-  write-grant file = λ k. wrote (fileOf version1 (map (entryFor 8 (m .locations) (m .carried)) (picked-read k)))
+  write-grant file = λ k. wrote (fileOf version2 (map (entryFor 80 (m .locations) (m .carried)) (picked-read k)))
 
   -- where the tables fit
   pub later-refusal : (file : List ℕ) → fits everyTable m ≡ true → refusal (read m) (ask (snapshot file)) ≡ later owned file
@@ -107,19 +107,19 @@ module _ (m : Memory) where
   unfolding test _⨾_
   refused-shape file f = write-refusal file ∙ ap (λ (b : Bool). test (not b) wrongShape 0 ⨾ later (badLocation (read m)) file) f
 
-  pub refused-length : (file : List ℕ) (long : ℕ) → fits everyTable m ≡ true → long ≡ fileLength version1 (length picked) → (length file ≡ long → ⊥) → refusal (read m) (ask (snapshot file)) ≡ refuse wrongShape 0
+  pub refused-length : (file : List ℕ) (long : ℕ) → fits everyTable m ≡ true → long ≡ fileLength version2 (length picked) → (length file ≡ long → ⊥) → refusal (read m) (ask (snapshot file)) ≡ refuse wrongShape 0
   unfolding test _⨾_
-  refused-length file long f l h = later-refusal file f ∙ rw (ne-eqb (length file) (fileLength version1 (length picked)) (λ q. h (q ∙ sym l)))
+  refused-length file long f l h = later-refusal file f ∙ rw (ne-eqb (length file) (fileLength version2 (length picked)) (λ q. h (q ∙ sym l)))
 
-  pub refused-open : (file : List ℕ) (long : ℕ) → fits everyTable m ≡ true → long ≡ fileLength version1 (length picked) → length file ≡ long → (getD (m .batch) 0 0 ≡ 0 → ⊥)
+  pub refused-open : (file : List ℕ) (long : ℕ) → fits everyTable m ≡ true → long ≡ fileLength version2 (length picked) → length file ≡ long → (getD (m .batch) 0 0 ≡ 0 → ⊥)
       → refusal (read m) (ask (snapshot file)) ≡ refuse batchOpen 0
   unfolding test _⨾_
-  refused-open file long f l h o = later-refusal file f ∙ rw (eq-eqb (length file) (fileLength version1 (length picked)) (h ∙ l), opened (getD (m .batch) 0 0) o)
+  refused-open file long f l h o = later-refusal file f ∙ rw (eq-eqb (length file) (fileLength version2 (length picked)) (h ∙ l), opened (getD (m .batch) 0 0) o)
 
-  pub rows-refusal : (file : List ℕ) (long : ℕ) → fits everyTable m ≡ true → long ≡ fileLength version1 (length picked) → length file ≡ long → getD (m .batch) 0 0 ≡ 0
+  pub rows-refusal : (file : List ℕ) (long : ℕ) → fits everyTable m ≡ true → long ≡ fileLength version2 (length picked) → length file ≡ long → getD (m .batch) 0 0 ≡ 0
       → refusal (read m) (ask (snapshot file)) ≡ snapshotRows owned 0 picked
   unfolding test _⨾_
-  rows-refusal file long f l h o = later-refusal file f ∙ rw (eq-eqb (length file) (fileLength version1 (length picked)) (h ∙ l), none-opened (getD (m .batch) 0 0) o)
+  rows-refusal file long f l h o = later-refusal file f ∙ rw (eq-eqb (length file) (fileLength version2 (length picked)) (h ∙ l), none-opened (getD (m .batch) 0 0) o)
 
   -- ---- what writing leaves
   leaves-refused : (file : List ℕ) (n i : ℕ) → refusal (read m) (ask (snapshot file)) ≡ refuse n i → _≡_ {A = Left} (record { answer = refused n i; file = file }) (snapshotLeaves m file)
@@ -142,5 +142,5 @@ module _ (m : Memory) where
       ap (λ (x : List ℕ). over x file) (sym w) ∙ ap (λ (x : ℕ). after ++ drop x file) n ∙ ap (λ (x : List ℕ). after ++ x) (drop-length file) ∙ append-nil after in
       rw (e, ap judgedVerdict p, write-grant file, z, ← w)
 
-  pub long-enough : fits everyTable m ≡ true → m .ids * 8 ≤ length (m .carried)
+  pub long-enough : fits everyTable m ≡ true → m .ids * 80 ≤ length (m .carried)
   long-enough f = let c = fits-carried everyTable m f in omega (arith, c)

@@ -51,7 +51,7 @@ pub after-le : (k i after : ℕ) (t : Bool) → k ≤ i → after ≡ k + cond t
 after-le k i after true h e = omega arith
 after-le k i after false h e = omega arith
 
-pub after-few : (k after : ℕ) (t : Bool) → k < 20 → after ≡ k + cond t 1 0 → after ≤ 20
+pub after-few : (k after : ℕ) (t : Bool) → k < 5 → after ≡ k + cond t 1 0 → after ≤ 5
 after-few k after true h e = omega arith
 after-few k after false h e = omega arith
 
@@ -107,39 +107,39 @@ module _ (p : ℕ → Bool) (n i : ℕ) where
 
   -- ---- a block's worth: so many ids in the list, and those that are left, are those of the whole
   abbrev pub Gathering : List ℕ → List ℕ → ℕ → Type 0
-  Gathering whole list k = (take 20 whole ≡ take k list ++ take (20 - k) (thoseFrom p (n - i) i)) × (drop 20 whole ≡ drop (20 - k) (thoseFrom p (n - i) i))
+  Gathering whole list k = (take 5 whole ≡ take k list ++ take (5 - k) (thoseFrom p (n - i) i)) × (drop 5 whole ≡ drop (5 - k) (thoseFrom p (n - i) i))
 
-  pub gathered-done : (whole list : List ℕ) (k : ℕ) → n ≤ i → Gathering whole list k → (take k list ≡ take 20 whole) × (thoseFrom p (n - i) i ≡ drop 20 whole)
+  pub gathered-done : (whole list : List ℕ) (k : ℕ) → n ≤ i → Gathering whole list k → (take k list ≡ take 5 whole) × (thoseFrom p (n - i) i ≡ drop 5 whole)
   gathered-done whole list k h g =
       let z = those-done h in (
-        sym (g .0 ∙ ap (λ (r : List ℕ). take k list ++ take (20 - k) r) z ∙ ap (λ (r : List ℕ). take k list ++ r) (take-nil (20 - k)) ∙ append-nil (take k list)),
-        z ∙ sym (g .1 ∙ ap (drop (20 - k)) z ∙ drop-nil (20 - k)),
+        sym (g .0 ∙ ap (λ (r : List ℕ). take k list ++ take (5 - k) r) z ∙ ap (λ (r : List ℕ). take k list ++ r) (take-nil (5 - k)) ∙ append-nil (take k list)),
+        z ∙ sym (g .1 ∙ ap (drop (5 - k)) z ∙ drop-nil (5 - k)),
       )
 
-  pub gathered-full : (whole list : List ℕ) (k : ℕ) → 20 ≤ k → Gathering whole list k → (take k list ≡ take 20 whole) × (thoseFrom p (n - i) i ≡ drop 20 whole)
+  pub gathered-full : (whole list : List ℕ) (k : ℕ) → 5 ≤ k → Gathering whole list k → (take k list ≡ take 5 whole) × (thoseFrom p (n - i) i ≡ drop 5 whole)
   gathered-full whole list k h g =
-      let z : 20 - k ≡ 0 = omega arith in (
+      let z : 5 - k ≡ 0 = omega arith in (
         sym (g .0 ∙ ap (λ (x : ℕ). take k list ++ take x (thoseFrom p (n - i) i)) z ∙ append-nil (take k list)),
         sym (g .1 ∙ ap (λ (x : ℕ). drop x (thoseFrom p (n - i) i)) z),
       )
 
-pub gathered-turn : (p : ℕ → Bool) (n i : ℕ) (whole list : List ℕ) (k after : ℕ) (t : Bool) → i < n → k < 20 → k < length list → t ≡ p i → after ≡ k + cond t 1 0
+pub gathered-turn : (p : ℕ → Bool) (n i : ℕ) (whole list : List ℕ) (k after : ℕ) (t : Bool) → i < n → k < 5 → k < length list → t ≡ p i → after ≡ k + cond t 1 0
     → Gathering p n i whole list k → Gathering p n (i + 1) whole (set list k i) after
 gathered-turn p n i whole list k after t h l m e a g =
     let s = those-held p n i t h e in
-    go t a (g .0 ∙ ap (λ (r : List ℕ). take k list ++ take (20 - k) r) s) (g .1 ∙ ap (drop (20 - k)) s)
+    go t a (g .0 ∙ ap (λ (r : List ℕ). take k list ++ take (5 - k) r) s) (g .1 ∙ ap (drop (5 - k)) s)
   where
-    go : (b : Bool) → after ≡ k + cond b 1 0 → take 20 whole ≡ take k list ++ take (20 - k) (cond b (i ∷ later p n i) (later p n i))
-        → drop 20 whole ≡ drop (20 - k) (cond b (i ∷ later p n i) (later p n i)) → Gathering p n (i + 1) whole (set list k i) after
+    go : (b : Bool) → after ≡ k + cond b 1 0 → take 5 whole ≡ take k list ++ take (5 - k) (cond b (i ∷ later p n i) (later p n i))
+        → drop 5 whole ≡ drop (5 - k) (cond b (i ∷ later p n i) (later p n i)) → Gathering p n (i + 1) whole (set list k i) after
     go true a x y =
         let s : after ≡ suc k = omega arith in
-        let u : 20 - k ≡ suc (20 - suc k) = omega arith in
-        let x₁ : take 20 whole ≡ take k list ++ i ∷ take (20 - suc k) (later p n i) = rw u at x in
-        let y₁ : drop 20 whole ≡ drop (20 - suc k) (later p n i) = rw u at y in
-        rw s (x₁ ∙ sym (append-snoc (take k list) i (take (20 - suc k) (later p n i))) ∙ ap (λ (r : List ℕ). r ++ take (20 - suc k) (later p n i)) (sym (take-suc-set list k i m)), y₁)
+        let u : 5 - k ≡ suc (5 - suc k) = omega arith in
+        let x₁ : take 5 whole ≡ take k list ++ i ∷ take (5 - suc k) (later p n i) = rw u at x in
+        let y₁ : drop 5 whole ≡ drop (5 - suc k) (later p n i) = rw u at y in
+        rw s (x₁ ∙ sym (append-snoc (take k list) i (take (5 - suc k) (later p n i))) ∙ ap (λ (r : List ℕ). r ++ take (5 - suc k) (later p n i)) (sym (take-suc-set list k i m)), y₁)
     go false a x y =
         let s : after ≡ k = omega arith in
-        rw s (x ∙ ap (λ (r : List ℕ). r ++ take (20 - k) (later p n i)) (sym (take-set-le k list k i (omega arith))), y)
+        rw s (x ∙ ap (λ (r : List ℕ). r ++ take (5 - k) (later p n i)) (sym (take-set-le k list k i (omega arith))), y)
 
 -- ---- the whole, from id 0
 pub those-all : (p : ℕ → Bool) (n : ℕ) → thoseFrom p (n - 0) 0 ≡ thoseFrom p n 0
@@ -189,8 +189,8 @@ take-below b (suc m) [] f = λ k h. absurd (omega arith)
 take-below b (suc m) (x ∷ xs) f = below-cons b x (take m xs) (f 0 (omega arith)) (take-below b m xs (λ j l. f (suc j) (suc-le-suc l)))
 
 -- the ids of a block are rows of both tables
-pub those-rows : (p : ℕ → Bool) (n from : ℕ) (locations carried ids : List ℕ) → from ≤ n → length locations ≡ n → n * 8 ≤ length carried → ids ≡ take 20 (thoseFrom p (n - from) from)
-    → AreRows 8 locations carried ids
+pub those-rows : (p : ℕ → Bool) (n from : ℕ) (locations carried ids : List ℕ) → from ≤ n → length locations ≡ n → n * 80 ≤ length carried → ids ≡ take 5 (thoseFrom p (n - from) from)
+    → AreRows 80 locations carried ids
 those-rows p n from locations carried ids h l c e = rw e (λ k r.
-    let b : getD (take 20 (thoseFrom p (n - from) from)) k 0 < n = take-below n 20 (thoseFrom p (n - from) from) (those-below p (n - from) from n (omega arith)) k r in
+    let b : getD (take 5 (thoseFrom p (n - from) from)) k 0 < n = take-below n 5 (thoseFrom p (n - from) from) (those-below p (n - from) from n (omega arith)) k r in
     (omega arith, omega arith))

@@ -5,7 +5,7 @@ use mathlib.Core.List.{List, _++_}
 use Prim.Native.Nat.{ℕ, _+_, _*_}
 use lib.Dec.{eqb}
 use lib.ListN.{getD, take, drop}
-use Rattle.snapshot_blocks.specs.Formats.{version1}
+use Rattle.snapshot_blocks.specs.Formats.{version2}
 use Rattle.snapshot_blocks.specs.Blocks.{Entry, blockOf}
 use Rattle.tables.specs.Entries.{heldIn, badIn}
 
@@ -19,4 +19,4 @@ notOwn slots locations marks owners words i = badIn slots marks owners words i (
 
 -- the file with a block put at its place
 abbrev pub blockPut : ℕ → List Entry → List ℕ → List ℕ
-blockPut number rows file = take (512 * number) file ++ (blockOf version1 number rows ++ drop (512 * number + 512) file)
+blockPut number rows file = take (512 * number) file ++ (blockOf version2 number rows ++ drop (512 * number + 512) file)

@@ -1,7 +1,8 @@
-// A snapshot of the store's live rows (request 2026-01): how long its file is, and its bytes, written into a lent file of just that length.
+// A snapshot of the store's live rows (requests 2026-01 and 2026-06), of version 2: how long its file is, and its bytes, written into a lent file of just
+// that length.
 //
 //     match snapshot_writer::snapshot_length(caps, &id_marks, &locations, &batch, &tallies) {
-//         Measured::Bytes(n) => ..,           // 512 for each 20 rows begun, and 512 for none
+//         Measured::Bytes(n) => ..,           // 512 for each 5 rows begun, and 512 for none
 //         Measured::Refused(refusal) => ..,   // 1; 11, a batch is open
 //     }
 //     match snapshot_writer::snapshot_write(caps, &id_marks, &locations, &slot_marks, &owners, &batch, &tallies, &carried, &mut file) {
@@ -16,7 +17,7 @@ ghost use mathlib.Core.Path.{_≡_};
 ghost use mathlib.Core.List.{map};
 ghost use Prim.Native.Nat.{_+_, _-_, _*_, _/_, _≤_, _<_};
 ghost use lib.ListN.{length, take, drop};
-ghost use Rattle.snapshot_blocks.specs.Formats.{version1};
+ghost use Rattle.snapshot_blocks.specs.Formats.{version2};
 ghost use Rattle.snapshot_blocks.specs.Blocks.{entryFor};
 ghost use Rattle.snapshot_blocks.specs.Files.{fileOf, fileLength};
 ghost use Rattle.model.specs.Snapshots.{thoseFrom, snapshotRows};
@@ -82,14 +83,14 @@ fn count(ids: usize, id_marks: &[u8], locations: &[u64], tallies: &[u64]) -> usi
 
 // How many full blocks come before the last.
 fn full_blocks(rows: usize) -> usize
-    ensures { λ r. ⌜ r ≡ (rows - 1) / 20 ⌝ }
+    ensures { λ r. ⌜ r ≡ (rows - 1) / 5 ⌝ }
 {
     if rows == 0 { 0 } else { (rows - 1) / PER_BLOCK }
 }
 
 fn file_length(rows: usize) -> usize
     requires { ⌜ rows ≤ 65536 ⌝ }
-    ensures { λ r. ⌜ r ≡ fileLength version1 rows ⌝ }
+    ensures { λ r. ⌜ r ≡ fileLength version2 rows ⌝ }
 {
     BLOCK * (full_blocks(rows) + 1)
 }
@@ -190,12 +191,12 @@ fn gather(
     from: usize,
     list: &mut [u64],
 ) -> Gathered
-    requires { ⌜ (length (now list) ≡ 20) × ((ids ≤ 65536) × (from ≤ ids)) ⌝ }
-    ensures { λ r. ⌜ ((r .count ≤ 20) × (r .next ≤ ids))
+    requires { ⌜ (length (now list) ≡ 5) × ((ids ≤ 65536) × (from ≤ ids)) ⌝ }
+    ensures { λ r. ⌜ ((r .count ≤ 5) × (r .next ≤ ids))
         × ((take (r .count) (now (list .exit))
-        ≡ take 20 (thoseFrom (storedIn ids (now («id_marks» .entry)) (now (locations .entry)) (now (tallies .entry))) (ids - from) from))
+        ≡ take 5 (thoseFrom (storedIn ids (now («id_marks» .entry)) (now (locations .entry)) (now (tallies .entry))) (ids - from) from))
         × (thoseFrom (storedIn ids (now («id_marks» .entry)) (now (locations .entry)) (now (tallies .entry))) (ids - r .next) (r .next)
-        ≡ drop 20
+        ≡ drop 5
         (thoseFrom (storedIn ids (now («id_marks» .entry)) (now (locations .entry)) (now (tallies .entry))) (ids - from) from))) ⌝ }
 {
     let mut n: usize = 0;
@@ -221,15 +222,15 @@ fn put_block(
     file: &mut [u8],
 ) -> usize
     requires { ⌜ ((ids ≤ 65536) × (from ≤ ids))
-        × (((length (now locations) ≡ ids) × (ids * 8 ≤ length (now carried)))
+        × (((length (now locations) ≡ ids) × (ids * 80 ≤ length (now carried)))
         × ((number ≤ 65536) × (512 * number + 512 ≤ length (now file)))) ⌝ }
     ensures { λ r. ⌜ (r ≤ ids)
         × ((thoseFrom (storedIn ids (now («id_marks» .entry)) (now (locations .entry)) (now (tallies .entry))) (ids - r) r
-        ≡ drop 20 (thoseFrom (storedIn ids (now («id_marks» .entry)) (now (locations .entry)) (now (tallies .entry))) (ids - from) from))
+        ≡ drop 5 (thoseFrom (storedIn ids (now («id_marks» .entry)) (now (locations .entry)) (now (tallies .entry))) (ids - from) from))
         × (now (file .exit)
         ≡ blockPut number
-        (map (entryFor 8 (now (locations .entry)) (now (carried .entry)))
-        (take 20 (thoseFrom (storedIn ids (now («id_marks» .entry)) (now (locations .entry)) (now (tallies .entry))) (ids - from) from)))
+        (map (entryFor 80 (now (locations .entry)) (now (carried .entry)))
+        (take 5 (thoseFrom (storedIn ids (now («id_marks» .entry)) (now (locations .entry)) (now (tallies .entry))) (ids - from) from)))
         (now (file .entry)))) ⌝ }
 {
     let mut list = [0u64; PER_BLOCK];
@@ -258,11 +259,11 @@ fn put_blocks(
     file: &mut [u8],
 )
     requires { ⌜ ((ids ≤ 65536) × (rows ≡ length (thoseFrom (storedIn ids (now «id_marks») (now locations) (now tallies)) ids 0)))
-        × (((length (now locations) ≡ ids) × (ids * 8 ≤ length (now carried)))
-        × (length (now file) ≡ fileLength version1 rows)) ⌝ }
+        × (((length (now locations) ≡ ids) × (ids * 80 ≤ length (now carried)))
+        × (length (now file) ≡ fileLength version2 rows)) ⌝ }
     ensures { λ _. ⌜ now (file .exit)
-        ≡ fileOf version1
-        (map (entryFor 8 (now (locations .entry)) (now (carried .entry)))
+        ≡ fileOf version2
+        (map (entryFor 80 (now (locations .entry)) (now (carried .entry)))
         (thoseFrom (storedIn ids (now («id_marks» .entry)) (now (locations .entry)) (now (tallies .entry))) ids 0)) ⌝ }
 {
     let last = full_blocks(rows);

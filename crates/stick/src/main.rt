@@ -1,5 +1,5 @@
-// The rows of snapshot files, for service staff (request 2026-01): `stick FILE ..` writes a line `id collection slab slot` for each row, and then a
-// sentence: how many rows there are, or which block was refused and why.
+// The rows of snapshot files, for service staff (requests 2026-01 and 2026-06): `stick FILE ..` writes a line `id collection slab slot key` for each row, and
+// then a sentence: how many rows there are, or which block was refused and why. A key is written in quotes, or by its bytes: "icons/lamp", 0x00ff.
 //
 // A file is read row by row, so that the rows before a damaged block are shown.
 ghost use mathlib.Core.Path.{_≡_};
@@ -14,7 +14,8 @@ use snapshot::Position;
 use snapshot::Step;
 use snapshot_blocks::Row;
 
-// One byte more than 4,096 blocks, which is more than any snapshot has: a file that fills it is too long.
+// One byte more than 4,096 blocks, 20,480 rows of version 2: a file that fills it is too long for this program. Code that is not optimised lays it on the stack more than once,
+// and that has 8 MiB.
 const LONGEST: usize = 2097153;
 
 // The most slots of a slab: a snapshot does not say its store's.
@@ -48,12 +49,81 @@ fn say_slot(location: u64) {
     }
 }
 
-fn say_row(row: Row) {
+// Whether a key can stand in quotes.
+fn is_plain(key: &[u8]) -> bool {
+    let mut i = 0;
+    while i < key.len() {
+        let byte = key[i];
+        if byte < b' ' || b'~' < byte || byte == b'"' {
+            return false;
+        }
+        i += 1;
+    }
+    true
+}
+
+fn digit(n: u8) -> u8 {
+    match n {
+        0 => b'0',
+        1 => b'1',
+        2 => b'2',
+        3 => b'3',
+        4 => b'4',
+        5 => b'5',
+        6 => b'6',
+        7 => b'7',
+        8 => b'8',
+        9 => b'9',
+        10 => b'a',
+        11 => b'b',
+        12 => b'c',
+        13 => b'd',
+        14 => b'e',
+        _ => b'f',
+    }
+}
+
+fn say_bytes(key: &[u8]) {
+    let mut i = 0;
+    while i < key.len() {
+        let byte = key[i];
+        let pair = [digit(byte / 16), digit(byte % 16)];
+        text(&pair);
+        i += 1;
+    }
+}
+
+fn say_key(key: &[u8]) {
+    if is_plain(key) {
+        text(b"\"");
+        text(key);
+        text(b"\"");
+        return;
+    }
+    text(b"0x");
+    say_bytes(key);
+}
+
+// The key that stands at a place of the file.
+fn say_key_at(file: &[u8], at: usize, length: usize) {
+    if file.len() < at {
+        return;
+    }
+    if file.len() - at < length {
+        return;
+    }
+    let end = at + length;
+    say_key(&file[at..end]);
+}
+
+fn say_row(file: &[u8], row: Row) {
     number(row.id);
     text(b" ");
     number(row.collection);
     text(b" ");
     say_slot(row.location);
+    text(b" ");
+    say_key_at(file, row.key, row.length);
     text(b"\n");
 }
 
@@ -61,8 +131,10 @@ fn say_reason(number: u8) {
     match number {
         Refusal::WRONG_SHAPE => text(b"the file is empty, or no whole number of blocks"),
         Refusal::CHECK_DIFFERS => text(b"its check differs: the file was damaged"),
-        Refusal::UNKNOWN_VERSION => text(b"its version is not 1"),
-        _ => text(b"its number, row count, padding or row order is wrong"),
+        Refusal::UNKNOWN_VERSION => text(b"its version is neither 1 nor 2"),
+        _ => text(
+            b"its number, row count, padding, row order or version, or a key in it, is wrong",
+        ),
     }
 }
 
@@ -84,7 +156,7 @@ fn say_rows(file: &[u8]) {
     while 0 < left {
         match at.step(file) {
             Step::Row(row, next) => {
-                say_row(row);
+                say_row(file, row);
                 at = next;
                 rows += 1;
             }
@@ -112,7 +184,7 @@ fn is_at_end(fd: i32) -> bool {
 
 fn say_read(space: &[u8], n: usize, is_whole: bool) {
     if space.len() <= n {
-        text(b"it is longer than any snapshot\n");
+        text(b"it is longer than 2097152 bytes, the most that this program reads\n");
         return;
     }
     if !is_whole {
@@ -148,7 +220,9 @@ fn say_argument(i: usize) {
 fn main() {
     let count = os::arg_count();
     if count < 2 {
-        text(b"stick FILE ..: the rows of snapshot files, a line each: id collection slab slot\n");
+        text(
+            b"stick FILE ..: the rows of snapshot files, a line each: id collection slab slot key\n",
+        );
     }
     let mut i = 1;
     while i < count {

@@ -4,8 +4,8 @@ use native.Mathlib.Omega.{arith}
 use Rattle.list_parts.specs.Parts.{putPart}
 use Rattle.list_parts.proofs.Parts.{putPart-range}
 use Rattle.carried.specs.Carried.{width}
-use Rattle.carried.proofs.Laws.{putRow-done}
-use Rattle.carried.proofs.LawsCode.{putRow-none, putRow-short}
+use Rattle.carried.proofs.Laws.{putRow-done, putRow-none}
+use Rattle.carried.proofs.LawsCode.{putRow-short}
 use borrow.Author.Needs.{needs}
 use Rattle.carried.proofs.put_row.Statement.{statement}
 use Rattle.carried.proofs.put_row.Tie as tie

@@ -110,8 +110,8 @@ add-keep c = search needs
 keep-requires : tie.Need-keep-requires
 keep-requires c κs = search
 
-put-rows-requires : tie.Need-put-rows-requires
-put-rows-requires c κs = search
+keep-requires-2 : tie.Need-keep-requires-2
+keep-requires-2 c κs = search
 
 same-length-6 : tie.Need-same-length-6
 same-length-6 c = search
@@ -140,7 +140,7 @@ returns-5 c =
     let ks = take (length (a .ids .now)) r in
     let κ = kinds-told m o e few r (c .before .before .before .before .before .before .before .before .before .before .before .before .before .before .before .before .before .before .before .before .before .before .before .before .before .kinds .ensures) in
     let g = rest-told m o e (sym (c .before .before .before .before .before .before .before .before .before .before .before .before .before .before .before .before .before .before .before .before .before .before .before .before .before .before .before .before .get .ensures) ∙ z) few ks κ _ (c .before .before .before .before .before .before .before .before .before .before .before .before .before .before .before .before .before .before .before .before .before .refused .ensures) ∙ ap judgedVerdict (c .before .before .before .before .before .before .before .before .before .before .before .before .before .before .before .before .before .before .before .enum-told .given .1) in
-    leaves-done m o e (sym (c .before .before .before .before .before .before .before .before .before .before .before .before .before .before .before .before .before .before .before .before .before .before .before .before .before .before .before .before .get .ensures) ∙ z) few ks κ _ _ _ _ _ g (c .before .before .before .before .before .before .before .before .before .before .before .before .before .before .before .place .ensures .0) (c .before .before .before .before .before .before .before .before .before .before .before .before .before .before .before .place .ensures .1) (c .before .before .before .before .before .before .keep .ensures) (c .before .before .put-rows .ensures)
+    leaves-done m o e (sym (c .before .before .before .before .before .before .before .before .before .before .before .before .before .before .before .before .before .before .before .before .before .before .before .before .before .before .before .before .get .ensures) ∙ z) few ks κ _ _ _ _ _ g (c .before .before .before .before .before .before .before .before .before .before .before .before .before .before .before .place .ensures .0) (c .before .before .before .before .before .before .before .before .before .before .before .before .before .before .before .place .ensures .1) (c .before .before .before .before .before .before .keep .ensures) (c .before .before .keep2 .ensures)
 
 pub offer-spec : {M : Type 1} → statement M
 offer-spec =
@@ -169,7 +169,7 @@ offer-spec =
     place-requires
     add-keep
     keep-requires
-    put-rows-requires
+    keep-requires-2
     same-length-6
     same-length-7
     same-length-8

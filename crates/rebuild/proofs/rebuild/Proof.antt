@@ -33,28 +33,36 @@ returns c =
 first-refused-requires : tie.Need-first-refused-requires
 first-refused-requires c κs = search
 
+first-long-row-requires : tie.Need-first-long-row-requires
+first-long-row-requires c κs = search
+
+with-keys-requires : tie.Need-with-keys-requires
+with-keys-requires c κs = search
+
 at-requires : tie.Need-at-requires
 at-requires c κs = search
 
 returns-2 : tie.Need-returns-2
 returns-2 c =
-    let a = c .before .before .before .before .before .before .before .before .before .before .before .before .before .before .before .before .before .before .args in
+    let a = c .before .before .before .before .before .before .before .before .before .before .before .before .before .before .before .before .before .before .before .before .args in
     let is = now (a .ids) in
     let ls = now (a .row-locations) in
     let bs = now (a .row-carried) in
     let m = lentTo (S.rebuild (record { ids = is; locations = ls; carried = bs })) (a .caps .ids) (a .caps .slots) (now (a .id-marks)) (now (a .locations)) (now (a .slot-marks)) (now (a .owners)) (now (a .batch)) (now (a .tallies)) (now (a .carried)) in
-    let g = rebuild-refused m is ls bs (fit-so m is ls bs (c .before .before .before .before .before .before .before .all-fit .ensures) (c .before .before .before .before .before .before .rows-fit .ensures) (c .before .before .before .before .before .both .ensures) (c .before .before .before .before .if1 .left)) _ (c .before .before .before .first-refused .ensures) (c .before .if2 .taken) in
+    let fit = fit-so m is ls bs (c .before .before .before .before .before .before .before .before .before .all-fit .ensures) (c .before .before .before .before .before .before .before .before .rows-fit .ensures) (c .before .before .before .before .before .before .before .both .ensures) (c .before .before .before .before .before .before .if1 .left) in
+    let g = rebuild-refused m is ls bs fit _ (c .before .before .before .before .before .first-refused .ensures) _ (c .before .before .before .before .first-long-row .ensures) _ (c .before .before .before .with-keys .ensures) (c .before .if2 .taken) in
     (ap refusedAs (c .at .ensures) ∙ g .0, g .1)
 
 write-requires : tie.Need-write-requires
 write-requires c κs =
-    let a = c .before .before .before .before .before .before .before .before .before .before .before .before .before .before .before .before .before .before .before .before .before .before .before .before .args in
+    let a = c .before .before .before .before .before .before .before .before .before .before .before .before .before .before .before .before .before .before .before .before .before .before .before .before .before .before .args in
     let is = now (a .ids) in
     let ls = now (a .row-locations) in
     let bs = now (a .row-carried) in
     let m = lentTo (S.rebuild (record { ids = is; locations = ls; carried = bs })) (a .caps .ids) (a .caps .slots) (now (a .id-marks)) (now (a .locations)) (now (a .slot-marks)) (now (a .owners)) (now (a .batch)) (now (a .tallies)) (now (a .carried)) in
-    let r = fit-rows m is ls bs (fit-so m is ls bs (c .before .before .before .before .before .before .before .before .before .before .before .before .before .all-fit .ensures) (c .before .before .before .before .before .before .before .before .before .before .before .before .rows-fit .ensures) (c .before .before .before .before .before .before .before .before .before .before .before .both .ensures) (c .before .before .before .before .before .before .before .before .before .before .if1 .left)) in
-    (r .good, r .long-is)
+    let fit = fit-so m is ls bs (c .before .before .before .before .before .before .before .before .before .before .before .before .before .before .before .all-fit .ensures) (c .before .before .before .before .before .before .before .before .before .before .before .before .before .before .rows-fit .ensures) (c .before .before .before .before .before .before .before .before .before .before .before .before .before .both .ensures) (c .before .before .before .before .before .before .before .before .before .before .before .before .if1 .left) in
+    let r = fit-rows m is ls bs fit in
+    (r .good, r .long-is, r .carries)
 
 same-length : tie.Need-same-length
 same-length c = search
@@ -79,12 +87,13 @@ same-length-7 c = search
 
 returns-3 : tie.Need-returns-3
 returns-3 c =
-    let a = c .before .before .before .before .before .before .before .before .before .before .before .before .before .before .before .before .before .before .before .before .before .before .before .before .before .before .before .before .before .before .before .before .before .before .before .before .before .before .before .args in
+    let a = c .before .before .before .before .before .before .before .before .before .before .before .before .before .before .before .before .before .before .before .before .before .before .before .before .before .before .before .before .before .before .before .before .before .before .before .before .before .before .before .before .before .args in
     let is = now (a .ids) in
     let ls = now (a .row-locations) in
     let bs = now (a .row-carried) in
     let m = lentTo (S.rebuild (record { ids = is; locations = ls; carried = bs })) (a .caps .ids) (a .caps .slots) (now (a .id-marks)) (now (a .locations)) (now (a .slot-marks)) (now (a .owners)) (now (a .batch)) (now (a .tallies)) (now (a .carried)) in
-    rebuild-granted m is ls bs (fit-so m is ls bs (c .before .before .before .before .before .before .before .before .before .before .before .before .before .before .before .before .before .before .before .before .before .before .before .before .before .before .before .before .all-fit .ensures) (c .before .before .before .before .before .before .before .before .before .before .before .before .before .before .before .before .before .before .before .before .before .before .before .before .before .before .before .rows-fit .ensures) (c .before .before .before .before .before .before .before .before .before .before .before .before .before .before .before .before .before .before .before .before .before .before .before .before .before .before .both .ensures) (c .before .before .before .before .before .before .before .before .before .before .before .before .before .before .before .before .before .before .before .before .before .before .before .before .before .if1 .left)) _ (c .before .before .before .before .before .before .before .before .before .before .before .before .before .before .before .before .before .before .before .before .before .before .before .before .first-refused .ensures) (c .before .before .before .before .before .before .before .before .before .before .before .before .before .before .before .before .before .before .before .before .before .before .if2 .left) (c .before .before .before .before .before .before .before .before .before .before .before .before .before .before .write .ensures)
+    let fit = fit-so m is ls bs (c .before .before .before .before .before .before .before .before .before .before .before .before .before .before .before .before .before .before .before .before .before .before .before .before .before .before .before .before .before .before .all-fit .ensures) (c .before .before .before .before .before .before .before .before .before .before .before .before .before .before .before .before .before .before .before .before .before .before .before .before .before .before .before .before .before .rows-fit .ensures) (c .before .before .before .before .before .before .before .before .before .before .before .before .before .before .before .before .before .before .before .before .before .before .before .before .before .before .before .before .both .ensures) (c .before .before .before .before .before .before .before .before .before .before .before .before .before .before .before .before .before .before .before .before .before .before .before .before .before .before .before .if1 .left) in
+    rebuild-granted m is ls bs fit _ (c .before .before .before .before .before .before .before .before .before .before .before .before .before .before .before .before .before .before .before .before .before .before .before .before .before .before .first-refused .ensures) _ (c .before .before .before .before .before .before .before .before .before .before .before .before .before .before .before .before .before .before .before .before .before .before .before .before .before .first-long-row .ensures) _ (c .before .before .before .before .before .before .before .before .before .before .before .before .before .before .before .before .before .before .before .before .before .before .before .before .with-keys .ensures) (c .before .before .before .before .before .before .before .before .before .before .before .before .before .before .before .before .before .before .before .before .before .before .if2 .left) (c .before .before .before .before .before .before .before .before .before .before .before .before .before .before .write .ensures)
 
 pub rebuild-spec : {M : Type 1} → statement M
 rebuild-spec =
@@ -96,6 +105,8 @@ rebuild-spec =
     of-requires
     returns
     first-refused-requires
+    first-long-row-requires
+    with-keys-requires
     at-requires
     returns-2
     write-requires

@@ -1,9 +1,13 @@
--- The tests of `stepIn` in their order.
-use mathlib.Core.Path.{_≡_}
-use Prim.Native.Nat.{min}
+-- The tests of `stepIn` in their order; a row that the block has stands within it, and so does its key (`key-within`).
+use mathlib.Core.Path.{_∙_}
+use Prim.Native.Nat.{_*_, _<_}
 use native.Mathlib.Omega.{arith}
 use borrow.Author.Tests.{lt-ltb, le-ltb, eq-eqb, ne-eqb, not-true, not-false}
+use Rattle.snapshot_blocks.specs.Formats.{formatOf, perBlock}
+use Rattle.snapshot_blocks.specs.Blocks.{versionIn}
+use Rattle.snapshot_blocks.proofs.Turns.{formatOf-few}
 use Rattle.snapshot.specs.Snapshot.{stepIn}
+use Rattle.snapshot.proofs.Turns.{key-within, placed-row}
 use borrow.Author.Needs.{needs}
 use Rattle.snapshot.proofs.step_in.Statement.{statement}
 use Rattle.snapshot.proofs.step_in.Tie as tie
@@ -11,18 +15,33 @@ use Rattle.snapshot.proofs.step_in.Tie as tie
 count-in-requires : tie.Need-count-in-requires
 count-in-requires c κs = search needs
 
+mul-start : tie.Need-mul-start
+mul-start c = search needs
+
 row-at-requires : tie.Need-row-at-requires
 row-at-requires c κs = search needs
 
+placed-requires : tie.Need-placed-requires
+placed-requires c κs =
+    let a = c .before .before .before .before .args in
+    let v = versionIn (a .block .now) in
+    let h : a .row < perBlock (formatOf v) = omega (arith, c .before .before .count-in .ensures, c .before .before .before .before .pre .0) in
+    omega (arith, c .before .before .before .before .pre .1, key-within v (a .row) (a .block .now) _ h (c .row-at .ensures))
+
 next-of-requires : tie.Need-next-of-requires
-next-of-requires c κs = search needs
+next-of-requires c κs =
+    let v = versionIn (c .before .before .before .before .before .args .block .now) in
+    (omega (arith, c .before .before .before .count-in .ensures, c .before .before .before .before .before .pre .0, formatOf-few v), c .before .before .before .before .before .pre .1)
 
 returns : tie.Need-returns
 unfolding stepIn
 returns c =
-    let n = rw (c .before .before .before .count-in .ensures) at (lt-ltb _ _ (c .before .before .if1 .taken)) in
-    let k : min (c .before .before .before .before .before .args .row) 20 ≡ c .before .before .before .before .before .args .row = omega arith in
-    simp (n, ← c .before .before .before .count-in .ensures, rw k at (c .before .row-at .ensures), c .next-of .ensures)
+    let a = c .before .before .before .before .before .before .args in
+    let v = versionIn (a .block .now) in
+    let h : a .row < perBlock (formatOf v) = omega (arith, c .before .before .before .before .count-in .ensures, c .before .before .before .before .before .before .pre .0) in
+    let n = rw (c .before .before .before .before .count-in .ensures) at (lt-ltb _ _ (c .before .before .before .if1 .taken)) in
+    let r = c .before .placed .ensures ∙ placed-row v (a .row) (a .block .now) _ h (c .before .before .row-at .ensures) (512 * a .number) in
+    simp (n, ← c .before .before .before .before .count-in .ensures, r, c .next-of .ensures)
 
 at-requires : tie.Need-at-requires
 at-requires c κs = search needs
@@ -55,7 +74,9 @@ step-in-spec =
     tie.close
     (tie.spec
     count-in-requires
+    mul-start
     row-at-requires
+    placed-requires
     next-of-requires
     returns
     at-requires

@@ -1,9 +1,11 @@
 -- The tests of `wrongAt` in their order; a part of the file is one of its blocks (`part-block`, `part-before`).
-use mathlib.Core.Path.{sym, _∙_}
+use mathlib.Core.Path.{refl, sym, _∙_}
+use Prim.Native.Nat.{_*_}
 use native.Mathlib.Omega.{arith}
 use borrow.Author.Tests.{not-true, not-false}
-use Rattle.snapshot.specs.Snapshot.{wrongAt}
-use Rattle.snapshot.proofs.Turns.{place-end, wrongAt-in, wrongAt-first, wrongAt-follows, wrongAt-not}
+use Rattle.snapshot_blocks.specs.Formats.{formatOf}
+use Rattle.snapshot.specs.Snapshot.{formatAt, wrongAt}
+use Rattle.snapshot.proofs.Turns.{place-end, part-block, part-before, wrongAt-in, wrongAt-first, wrongAt-known, wrongAt-follows, wrongAt-not}
 use borrow.Author.Needs.{needs}
 use Rattle.snapshot.proofs.wrong_at.Statement.{statement}
 use Rattle.snapshot.proofs.wrong_at.Tie as tie
@@ -34,10 +36,20 @@ wrong-in-requires : tie.Need-wrong-in-requires
 wrong-in-requires c κs = search needs
 
 returns-2 : tie.Need-returns-2
-returns-2 c = wrongAt-in _ _ _ (sym (c .before .before .before .before .is-place .ensures) ∙ not-false _ (c .before .before .before .if1 .left)) (c .before .wrong-in .ensures) (c .if2 .taken)
+returns-2 c =
+    let n = c .before .before .before .before .before .before .args .number in
+    let file = c .before .before .before .before .before .before .args .file .now in
+    let p = sym (c .before .before .before .before .is-place .ensures) ∙ not-false _ (c .before .before .before .if1 .left) in
+    let e = rw (part-block n (512 * n) file refl) at (c .before .wrong-in .ensures) in
+    wrongAt-in (formatAt formatOf n file) n file _ p e (c .if2 .taken)
 
 returns-3 : tie.Need-returns-3
-returns-3 c = wrongAt-first _ _ _ (sym (c .before .before .before .before .before .is-place .ensures) ∙ not-false _ (c .before .before .before .before .if1 .left)) (c .before .before .wrong-in .ensures) (c .before .if2 .left) (c .if3 .taken)
+returns-3 c =
+    let n = c .before .before .before .before .before .before .before .args .number in
+    let file = c .before .before .before .before .before .before .before .args .file .now in
+    let p = sym (c .before .before .before .before .before .is-place .ensures) ∙ not-false _ (c .before .before .before .before .if1 .left) in
+    let e = rw (part-block n (512 * n) file refl) at (c .before .before .wrong-in .ensures) in
+    wrongAt-first (formatAt formatOf n file) n file _ p e (c .before .if2 .left) (c .if3 .taken)
 
 sub-before : tie.Need-sub-before
 sub-before c = search needs
@@ -61,13 +73,30 @@ part-follows-on-end-2 : tie.Need-part-follows-on-end-2
 part-follows-on-end-2 c = omega (arith, place-end _ _ (sym (c .before .before .before .before .before .before .is-place .ensures) ∙ not-false _ (c .before .before .before .before .before .if1 .left)))
 
 follows-on-requires : tie.Need-follows-on-requires
-follows-on-requires c κs = search needs
+follows-on-requires c κs =
+    let n = c .before .before .before .before .before .before .before .before .before .args .number in
+    let file = c .before .before .before .before .before .before .before .before .before .args .file .now in
+    let p = sym (c .before .before .before .before .before .before .before .is-place .ensures) ∙ not-false _ (c .before .before .before .before .before .before .if1 .left) in
+    let e = rw (part-block n (512 * n) file refl) at (c .before .before .before .before .wrong-in .ensures) in
+    rw (part-block n (512 * n) file refl) (wrongAt-known (formatAt formatOf n file) n file _ p e (c .before .before .before .if2 .left))
 
 returns-4 : tie.Need-returns-4
-returns-4 c = wrongAt-follows _ _ _ (sym (c .before .before .before .before .before .before .before .before .before .is-place .ensures) ∙ not-false _ (c .before .before .before .before .before .before .before .before .if1 .left)) (c .before .before .before .before .before .before .wrong-in .ensures) (c .before .before .before .before .before .if2 .left) (c .before .before .before .before .if3 .left) _ (c .before .follows-on .ensures) (c .if4 .taken)
+returns-4 c =
+    let n = c .before .before .before .before .before .before .before .before .before .before .before .args .number in
+    let file = c .before .before .before .before .before .before .before .before .before .before .before .args .file .now in
+    let p = sym (c .before .before .before .before .before .before .before .before .before .is-place .ensures) ∙ not-false _ (c .before .before .before .before .before .before .before .before .if1 .left) in
+    let e = rw (part-block n (512 * n) file refl) at (c .before .before .before .before .before .before .wrong-in .ensures) in
+    let q = rw (part-before n file (c .before .before .before .before .if3 .left), part-block n (512 * n) file refl) at (c .before .follows-on .ensures) in
+    wrongAt-follows (formatAt formatOf n file) n file _ p e (c .before .before .before .before .before .if2 .left) (c .before .before .before .before .if3 .left) _ q (c .if4 .taken)
 
 returns-5 : tie.Need-returns-5
-returns-5 c = wrongAt-not _ _ _ (sym (c .before .before .before .before .before .before .before .before .before .is-place .ensures) ∙ not-false _ (c .before .before .before .before .before .before .before .before .if1 .left)) (c .before .before .before .before .before .before .wrong-in .ensures) (c .before .before .before .before .before .if2 .left) (c .before .before .before .before .if3 .left) _ (c .before .follows-on .ensures) (c .if4 .left)
+returns-5 c =
+    let n = c .before .before .before .before .before .before .before .before .before .before .before .args .number in
+    let file = c .before .before .before .before .before .before .before .before .before .before .before .args .file .now in
+    let p = sym (c .before .before .before .before .before .before .before .before .before .is-place .ensures) ∙ not-false _ (c .before .before .before .before .before .before .before .before .if1 .left) in
+    let e = rw (part-block n (512 * n) file refl) at (c .before .before .before .before .before .before .wrong-in .ensures) in
+    let q = rw (part-before n file (c .before .before .before .before .if3 .left), part-block n (512 * n) file refl) at (c .before .follows-on .ensures) in
+    wrongAt-not (formatAt formatOf n file) n file _ p e (c .before .before .before .before .before .if2 .left) (c .before .before .before .before .if3 .left) _ q (c .if4 .left)
 
 pub wrong-at-spec : {M : Type 1} → statement M
 wrong-at-spec =

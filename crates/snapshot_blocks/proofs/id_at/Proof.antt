@@ -1,16 +1,13 @@
 -- The first eight bytes from where the row starts.
 use mathlib.Core.Path.{ap, _∙_}
-use Prim.Native.Nat.{ℕ, _+_, _*_}
+use Prim.Native.Nat.{ℕ, _+_}
 use Rattle.little_endian.specs.LittleEndian.{getAt}
 use borrow.Author.Needs.{needs}
 use Rattle.snapshot_blocks.proofs.id_at.Statement.{statement}
 use Rattle.snapshot_blocks.proofs.id_at.Tie as tie
 
-smaller-requires : tie.Need-smaller-requires
-smaller-requires c κs = search needs
-
-start-of-requires : tie.Need-start-of-requires
-start-of-requires c κs = search needs
+start-in-requires : tie.Need-start-in-requires
+start-in-requires c κs = search needs
 
 add-get-at : tie.Need-add-get-at
 add-get-at c = search needs
@@ -19,9 +16,7 @@ get-at-requires : tie.Need-get-at-requires
 get-at-requires c κs = search needs
 
 returns : tie.Need-returns
-returns c =
-    let s = c .before .start-of .ensures ∙ ap (λ (k : ℕ). 8 + 24 * k) (c .before .before .smaller .ensures) in
-    c .get-at .ensures ∙ ap (λ (x : ℕ). getAt x (x + 8) (c .before .before .before .before .args .block .now)) s
+returns c = c .get-at .ensures ∙ ap (λ (x : ℕ). getAt x (x + 8) (c .before .before .before .args .block .now)) (c .before .start-in .ensures .0)
 
 pub id-at-spec : {M : Type 1} → statement M
-id-at-spec = tie.close (tie.spec smaller-requires start-of-requires add-get-at get-at-requires returns)
+id-at-spec = tie.close (tie.spec start-in-requires add-get-at get-at-requires returns)

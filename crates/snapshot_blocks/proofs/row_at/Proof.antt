@@ -1,18 +1,14 @@
--- The row's three numbers, read from where it starts (`row-shown`).
-use mathlib.Core.Path.{ap, _∙_}
-use Prim.Native.Nat.{ℕ}
-use Rattle.snapshot_blocks.specs.Formats.{version1}
-use Rattle.snapshot_blocks.specs.Blocks.{rowAt}
+-- The row's numbers, read from where it starts (`row-shown`).
+use Prim.Native.Nat.{min}
+use Rattle.snapshot_blocks.specs.Formats.{formatOf}
+use Rattle.snapshot_blocks.specs.Blocks.{versionIn}
 use Rattle.snapshot_blocks.proofs.Turns.{row-shown}
 use borrow.Author.Needs.{needs}
 use Rattle.snapshot_blocks.proofs.row_at.Statement.{statement}
 use Rattle.snapshot_blocks.proofs.row_at.Tie as tie
 
-smaller-requires : tie.Need-smaller-requires
-smaller-requires c κs = search needs
-
-start-of-requires : tie.Need-start-of-requires
-start-of-requires c κs = search needs
+start-in-requires : tie.Need-start-in-requires
+start-in-requires c κs = search needs
 
 add-get-at : tie.Need-add-get-at
 add-get-at c = search needs
@@ -38,19 +34,22 @@ add-get-at-5 c = search needs
 get-at-requires-3 : tie.Need-get-at-requires-3
 get-at-requires-3 c κs = search needs
 
+key-length-requires : tie.Need-key-length-requires
+key-length-requires c κs = search needs
+
+add-t8 : tie.Need-add-t8
+add-t8 c = search needs
+
 returns : tie.Need-returns
 returns c =
-    let l = c .before .before .before .before .before .before .args .block .now in
-    let k = c .before .before .before .before .smaller in
-    row-shown l (k .result) (c .before .before .before .start-of .result) _ _ _ (c .before .before .before .start-of .ensures) (c .before .before .get-at .ensures) (c .before .get-at2 .ensures) (c .get-at3 .ensures)
-    ∙ ap (λ (x : ℕ). rowAt version1 x l) (k .ensures)
+    let a = c .before .before .before .before .before .before .args in
+    row-shown (formatOf (versionIn (a .block .now))) (a .block .now) (min (a .k) 20) (c .before .before .before .before .start-in .result) _ _ _ _ (c .before .before .before .before .start-in .ensures .0) (c .before .before .before .get-at .ensures) (c .before .before .get-at2 .ensures) (c .before .get-at3 .ensures) (c .key-length .ensures)
 
 pub row-at-spec : {M : Type 1} → statement M
 row-at-spec =
     tie.close
     (tie.spec
-    smaller-requires
-    start-of-requires
+    start-in-requires
     add-get-at
     get-at-requires
     add-get-at-2
@@ -59,4 +58,6 @@ row-at-spec =
     add-get-at-4
     add-get-at-5
     get-at-requires-3
+    key-length-requires
+    add-t8
     returns)

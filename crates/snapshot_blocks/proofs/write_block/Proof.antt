@@ -4,7 +4,7 @@ use Prim.Native.Nat.{ℕ, _*_}
 use native.Mathlib.Omega.{arith}
 use mathlib.Core.List.{List, map}
 use lib.ListN.{length, length-map}
-use Rattle.snapshot_blocks.specs.Formats.{version1}
+use Rattle.snapshot_blocks.specs.Formats.{version2}
 use Rattle.snapshot_blocks.specs.Blocks.{Entry, entryFor, rowsBytes}
 use Rattle.snapshot_blocks.proofs.Rows.{length-rowsBytes}
 use Rattle.snapshot_blocks.proofs.Writing.{wide-entriesFor, block-written}
@@ -40,14 +40,14 @@ returns : tie.Need-returns
 returns c =
     let a = c .before .before .before .before .before .before .before .before .before .before .before .before .before .before .before .before .before .before .before .before .before .before .before .before .before .before .before .before .before .args in
     let ids = a .ids .now in
-    let e : ℕ → Entry = entryFor 8 (a .locations .now) (a .carried .now) in
+    let e : ℕ → Entry = entryFor 80 (a .locations .now) (a .carried .now) in
     let rows : List Entry = map e ids in
     let n : length rows ≡ length ids = length-map ids e in
-    let k : length (rowsBytes rows) ≡ 24 * length ids =
-    length-rowsBytes version1 rows (wide-entriesFor version1 (a .locations .now) (a .carried .now) ids (c .before .before .before .before .before .before .before .before .before .before .before .before .before .before .before .before .before .before .before .before .before .before .before .before .before .before .before .before .before .pre .2)) ∙ ap (λ (x : ℕ). 24 * x) n in
+    let k : length (rowsBytes rows) ≡ 96 * length ids =
+    length-rowsBytes version2 rows (wide-entriesFor version2 (a .locations .now) (a .carried .now) ids (c .before .before .before .before .before .before .before .before .before .before .before .before .before .before .before .before .before .before .before .before .before .before .before .before .before .before .before .before .before .pre .2)) ∙ ap (λ (x : ℕ). 96 * x) n in
     let s = c .before .before .before .before .before .before .before .before .before .before .before .before .before .before .before .before .before .before .before .before .before .before .before .before .start-of .ensures in
     let laid = rw (← s) at (c .before .before .before .before .before .before .before .before .before .before .put-rows .ensures) in
-    block-written version1 (a .number) (length ids) (c .before .before .before .before .before .before .before .before .before .before .before .before .before .before .before .before .before .before .before .before .before .before .before .before .start-of .result) rows (a .block .now) _ _ _ _ _ _ n (omega (arith, k, s)) (omega (arith, s, c .before .before .before .before .before .before .before .before .before .before .before .before .before .before .before .before .before .before .before .before .before .before .before .before .before .before .before .before .before .pre .0)) (c .before .before .before .before .before .before .before .before .before .before .before .before .before .before .before .before .before .before .before .before .before .before .before .before .before .before .before .before .before .pre .1)
+    block-written version2 (a .number) (length ids) (c .before .before .before .before .before .before .before .before .before .before .before .before .before .before .before .before .before .before .before .before .before .before .before .before .start-of .result) rows (a .block .now) _ _ _ _ _ _ n (omega (arith, k, s)) (omega (arith, s, c .before .before .before .before .before .before .before .before .before .before .before .before .before .before .before .before .before .before .before .before .before .before .before .before .before .before .before .before .before .pre .0)) (c .before .before .before .before .before .before .before .before .before .before .before .before .before .before .before .before .before .before .before .before .before .before .before .before .before .before .before .before .before .pre .1)
     (c .before .before .before .before .before .before .before .before .before .before .before .before .before .before .before .before .before .before .before .before .before .before .put-at .ensures) (c .before .before .before .before .before .before .before .before .before .before .before .before .before .before .before .before .before .before .put-at2 .ensures) (c .before .before .before .before .before .before .before .before .before .before .before .before .before .before .put-at3 .ensures) laid (c .before .before .before .before .before .before .put-at4 .ensures) (c .before .before .write .ensures)
 
 pub write-block-spec : {M : Type 1} → statement M

@@ -1,11 +1,15 @@
--- The tests of `readInto` in their order. Where no block is wrong each has at most 20 rows, so that they have room (`total-le`); the lists
--- are then as `readInto-rows` says.
-use mathlib.Core.Path.{sym, _∙_}
+-- The tests of `readInto` in their order. Where no block is wrong all are right by the format of the first (`by-format`), and the rows have room
+-- (`total-fits`); the lists are then as `readInto-rows` says.
+use mathlib.Core.Path.{refl, sym, _∙_}
+use native.Mathlib.Nat.{le-trans}
 use native.Mathlib.Omega.{arith}
 use borrow.Author.Tests.{lt-ltb, le-ltb, not-true, not-false}
+use Rattle.snapshot_blocks.specs.Blocks.{versionIn}
+use Rattle.snapshot_blocks.proofs.Turns.{formatOf-few}
+use Rattle.snapshot.specs.Snapshot.{blockAt}
 use Rattle.snapshot.proofs.Turns.{place-end}
-use Rattle.snapshot_lists.specs.Lists.{readInto}
-use Rattle.snapshot_lists.proofs.Turns.{total-le, room, readInto-rows}
+use Rattle.snapshot_lists.specs.Lists.{readInto, formatIn}
+use Rattle.snapshot_lists.proofs.Turns.{room, by-format, last-few, total-fits, readInto-rows}
 use borrow.Author.Needs.{needs}
 use Rattle.snapshot_lists.proofs.read.Statement.{statement}
 use Rattle.snapshot_lists.proofs.read.Tie as tie
@@ -20,15 +24,23 @@ returns : tie.Need-returns
 unfolding readInto
 returns c = simp (sym (c .before .before .is-place .ensures) ∙ not-true _ (c .before .if1 .taken), c .of .ensures)
 
+most-of-requires : tie.Need-most-of-requires
+most-of-requires c κs = omega (arith, place-end _ _ (sym (c .before .is-place .ensures) ∙ not-false _ (c .if1 .left)))
+
 is-room-requires : tie.Need-is-room-requires
-is-room-requires c κs = search needs
+is-room-requires c κs =
+    let file = c .before .before .before .before .before .before .before .args .file .now in
+    (rw (c .most-of .ensures) (formatOf-few (versionIn (blockAt 0 file))), omega arith)
 
 of-requires-2 : tie.Need-of-requires-2
 of-requires-2 c κs = search needs
 
 returns-2 : tie.Need-returns-2
 unfolding readInto
-returns-2 c = simp (sym (c .before .before .before .before .is-place .ensures) ∙ not-false _ (c .before .before .before .if1 .left), sym (c .before .before .is-room .ensures) ∙ not-true _ (c .before .if2 .taken), c .of2 .ensures)
+returns-2 c =
+    let file = c .before .before .before .before .before .before .before .before .before .before .args .file .now in
+    let r = sym (c .before .before .is-room .ensures (formatIn file) (sym (c .before .before .before .most-of .ensures))) ∙ not-true _ (c .before .if2 .taken) in
+    simp (sym (c .before .before .before .before .before .is-place .ensures) ∙ not-false _ (c .before .before .before .before .if1 .left), r, c .of2 .ensures)
 
 first-wrong-requires : tie.Need-first-wrong-requires
 first-wrong-requires c κs = search needs
@@ -42,21 +54,31 @@ at-requires c κs = search needs
 returns-3 : tie.Need-returns-3
 unfolding readInto
 returns-3 c =
+    let file = c .before .before .before .before .before .before .before .before .before .before .before .before .before .args .file .now in
+    let r = sym (c .before .before .before .before .before .is-room .ensures (formatIn file) (sym (c .before .before .before .before .before .before .most-of .ensures))) ∙ not-false _ (c .before .before .before .before .if2 .left) in
     let w = rw (c .before .before .before .first-wrong .ensures) at (lt-ltb _ _ (c .before .before .if3 .taken)) in
-    simp (sym (c .before .before .before .before .before .before .before .is-place .ensures) ∙ not-false _ (c .before .before .before .before .before .before .if1 .left), sym (c .before .before .before .before .before .is-room .ensures) ∙ not-false _ (c .before .before .before .before .if2 .left), w, c .at .ensures, c .before .wrong-at .ensures, c .before .before .before .first-wrong .ensures)
+    simp (sym (c .before .before .before .before .before .before .before .before .is-place .ensures) ∙ not-false _ (c .before .before .before .before .before .before .before .if1 .left), r, w, c .at .ensures, c .before .wrong-at .ensures, c .before .before .before .first-wrong .ensures)
 
 total-of-requires : tie.Need-total-of-requires
 total-of-requires c κs =
-    let p = sym (c .before .before .before .before .before .is-place .ensures) ∙ not-false _ (c .before .before .before .before .if1 .left) in
-    (omega (arith, place-end _ _ p), total-le (c .before .before .before .before .before .before .before .before .before .before .args .file .now) p (rw (c .before .first-wrong .ensures) at (c .if3 .left)) .0)
+    let file = c .before .before .before .before .before .before .before .before .before .before .before .args .file .now in
+    let p = sym (c .before .before .before .before .before .before .is-place .ensures) ∙ not-false _ (c .before .before .before .before .before .if1 .left) in
+    let h = rw (c .before .first-wrong .ensures) at (c .if3 .left) in
+    (omega (arith, place-end _ _ p), rw (c .before .before .before .before .most-of .ensures) (formatOf-few (versionIn (blockAt 0 file))), last-few file p h)
+
+width-of-requires : tie.Need-width-of-requires
+width-of-requires c κs = omega (arith, place-end _ _ (sym (c .before .before .before .before .before .before .before .is-place .ensures) ∙ not-false _ (c .before .before .before .before .before .before .if1 .left)))
 
 take-requires : tie.Need-take-requires
 take-requires c κs =
-    let p = sym (c .before .before .before .before .before .before .before .before .before .is-place .ensures) ∙ not-false _ (c .before .before .before .before .before .before .before .before .if1 .left) in
-    let r = room _ _ _ _ (sym (c .before .before .before .before .before .before .before .is-room .ensures) ∙ not-false _ (c .before .before .before .before .before .before .if2 .left)) in
-    let t = total-le (c .before .before .before .before .before .before .before .before .before .before .before .before .before .before .args .file .now) p (rw (c .before .before .before .before .before .first-wrong .ensures) at (c .before .before .before .before .if3 .left)) .1 in
-    let e = c .before .before .before .total-of .ensures in
-    (omega arith, omega (arith, r .0), r .1)
+    let file = c .before .before .before .before .before .before .before .before .before .before .before .before .before .before .before .before .args .file .now in
+    let f = formatIn file in
+    let p = sym (c .before .before .before .before .before .before .before .before .before .before .before .is-place .ensures) ∙ not-false _ (c .before .before .before .before .before .before .before .before .before .before .if1 .left) in
+    let h = rw (c .before .before .before .before .before .before .first-wrong .ensures) at (c .before .before .before .before .before .if3 .left) in
+    let m = c .before .before .before .before .before .before .before .before .before .most-of .ensures in
+    let r = room f _ _ _ _ (sym (c .before .before .before .before .before .before .before .before .is-room .ensures f (sym m)) ∙ not-false _ (c .before .before .before .before .before .before .before .if2 .left)) in
+    let n = c .before .before .before .before .total-of .ensures f (sym m) in
+    (m, c .before .before .before .width-of .ensures, p, by-format file p h, n, rw n (le-trans (total-fits file p h) (r .0)), r .1)
 
 same-length : tie.Need-same-length
 same-length c = search needs
@@ -69,10 +91,15 @@ same-length-3 c = search needs
 
 returns-4 : tie.Need-returns-4
 returns-4 c =
-    let w = rw (c .before .before .before .before .before .before .before .before .before .before .before .before .first-wrong .ensures) at (le-ltb _ _ (c .before .before .before .before .before .before .before .before .before .before .before .if3 .left)) in
-    let a = c .before .before .before .before .before .before .before .before .before .before .before .before .before .before .before .before .before .before .before .before .before .args in
+    let a = c .before .before .before .before .before .before .before .before .before .before .before .before .before .before .before .before .before .before .before .before .before .before .before .args in
+    let file = a .file .now in
+    let f = formatIn file in
+    let m = c .before .before .before .before .before .before .before .before .before .before .before .before .before .before .before .before .most-of .ensures in
+    let r = sym (c .before .before .before .before .before .before .before .before .before .before .before .before .before .before .before .is-room .ensures f (sym m)) ∙ not-false _ (c .before .before .before .before .before .before .before .before .before .before .before .before .before .before .if2 .left) in
+    let w = rw (c .before .before .before .before .before .before .before .before .before .before .before .before .before .first-wrong .ensures) at (le-ltb _ _ (c .before .before .before .before .before .before .before .before .before .before .before .before .if3 .left)) in
     let t = c .before .before .before .before .before .before .take .ensures in
-    readInto-rows (a .file .now) (a .ids .now) (a .locations .now) (a .carried .now) _ _ _ _ (sym (c .before .before .before .before .before .before .before .before .before .before .before .before .before .before .before .before .is-place .ensures) ∙ not-false _ (c .before .before .before .before .before .before .before .before .before .before .before .before .before .before .before .if1 .left)) (sym (c .before .before .before .before .before .before .before .before .before .before .before .before .before .before .is-room .ensures) ∙ not-false _ (c .before .before .before .before .before .before .before .before .before .before .before .before .before .if2 .left)) w (c .before .before .before .before .before .before .before .before .before .before .total-of .ensures) (t .0) (t .1) (t .2)
+    readInto-rows f file (a .ids .now) (a .locations .now) (a .carried .now) _ _ _ _ refl (sym (c .before .before .before .before .before .before .before .before .before .before .before .before .before .before .before .before .before .before .is-place .ensures) ∙ not-false _ (c .before .before .before .before .before .before .before .before .before .before .before .before .before .before .before .before .before .if1 .left)) r w
+    (c .before .before .before .before .before .before .before .before .before .before .before .total-of .ensures f (sym m)) (t .0) (t .1) (t .2)
 
 pub read-spec : {M : Type 1} → statement M
 read-spec =
@@ -81,6 +108,7 @@ read-spec =
     is-place-requires
     of-requires
     returns
+    most-of-requires
     is-room-requires
     of-requires-2
     returns-2
@@ -89,6 +117,7 @@ read-spec =
     at-requires
     returns-3
     total-of-requires
+    width-of-requires
     take-requires
     same-length
     same-length-2

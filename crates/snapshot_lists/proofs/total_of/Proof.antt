@@ -35,14 +35,14 @@ sum-of-requires : tie.Need-sum-of-requires
 sum-of-requires c κs =
     let f = c .before .before .before .args .file .now in
     let n : ℕ = length f / 512 - 1 in
-    (omega arith, rw (c .count-in .ensures ∙ ap countIn (part-block n (512 * n) f refl)) (c .before .before .before .pre .1))
+    (c .before .before .before .pre .1, omega arith, rw (c .count-in .ensures ∙ ap countIn (part-block n (512 * n) f refl)) (c .before .before .before .pre .2))
 
 returns : tie.Need-returns
 unfolding total
 returns c =
-    let f = c .before .before .before .before .args .file .now in
-    let n : ℕ = length f / 512 - 1 in
-    c .sum-of .ensures ∙ rw (c .before .count-in .ensures ∙ ap countIn (part-block n (512 * n) f refl))
+    λ f e. let file = c .before .before .before .before .args .file .now in
+    let n : ℕ = length file / 512 - 1 in
+    c .sum-of .ensures ∙ rw (c .before .count-in .ensures ∙ ap countIn (part-block n (512 * n) file refl), e)
 
 pub total-of-spec : {M : Type 1} → statement M
 total-of-spec =

@@ -1,5 +1,5 @@
--- `gather` meets its contract. The loop's invariant: the ids in the list, and as many of those left as it has room for, are the first 20 of the whole; what
--- comes after them is what comes after those 20. The measure is the ids left. Assumes nothing.
+-- `gather` meets its contract. The loop's invariant: the ids in the list, and as many of those left as it has room for, are the first 5 of the whole; what
+-- comes after them is what comes after those 5. The measure is the ids left. Assumes nothing.
 use mathlib.Core.Path.{_≡_, refl, _∙_}
 use Prim.Native.Nat.{_-_, _≤_}
 use native.Mathlib.Omega.{arith}
@@ -14,7 +14,7 @@ use Rattle.snapshot_writer.proofs.gather.Tie as tie
 
 abbrev Inv-loop : tie.InvT-loop
 Inv-loop ids id-marks locations tallies from list₀ n₀ i₀ list n i =
-    ((length list ≡ length list₀) × ((n ≤ 20) × (i ≤ ids)))
+    ((length list ≡ length list₀) × ((n ≤ 5) × (i ≤ ids)))
     × Gathering (storedIn ids id-marks locations tallies) ids i (thoseFrom (storedIn ids id-marks locations tallies) (ids - from) from) list n
 
 abbrev μ-loop : tie.MeasureT-loop
@@ -33,7 +33,7 @@ slice-write-list : tie.Need-slice-write-list Inv-loop μ-loop
 slice-write-list c =
     let v = c .before .before .before .loop .inv .0 .0 in
     let p = c .before .before .before .before .before .before .before .before .pre .0 in
-    let u = ltb-true (c .before .before .before .loop .n) 20 (c .before .if1 .taken) in
+    let u = ltb-true (c .before .before .before .loop .n) 5 (c .before .if1 .taken) in
     omega (arith, v, p, u)
 
 after-requires : tie.Need-after-requires Inv-loop μ-loop
@@ -52,7 +52,7 @@ loop-again c =
     let l = c .before .before .before .before .loop in
     let v = l .inv in
     let t = c .before .before .before .loop-test .taken in
-    let u = ltb-true (l .n) 20 (c .before .before .if1 .taken) in (
+    let u = ltb-true (l .n) 5 (c .before .before .if1 .taken) in (
       (length-set (l .list) (l .n) (l .i) ∙ v .0 .0, (after-few (l .n) (c .after .result) (c .before .is-stored .result) u (c .after .ensures), omega (arith, t))),
       gathered-turn (storedIn (a .ids) (a .id-marks .now) (a .locations .now) (a .tallies .now)) (a .ids) (l .i) (thoseFrom (storedIn (a .ids) (a .id-marks .now) (a .locations .now) (a .tallies .now)) (a .ids - a .from) (a .from))
           (l .list) (l .n) (c .after .result) (c .before .is-stored .result) t u (omega (arith, v .0 .0, p .0, u)) (c .before .is-stored .ensures) (c .after .ensures) (v .1),
@@ -67,7 +67,7 @@ returns c =
     let l = c .before .before .loop in (
       l .inv .0 .1,
       gathered-full (storedIn (a .ids) (a .id-marks .now) (a .locations .now) (a .tallies .now)) (a .ids) (l .i) (thoseFrom (storedIn (a .ids) (a .id-marks .now) (a .locations .now) (a .tallies .now)) (a .ids - a .from) (a .from))
-          (l .list) (l .n) (ltb-false (l .n) 20 (c .if1 .left)) (l .inv .1),
+          (l .list) (l .n) (ltb-false (l .n) 5 (c .if1 .left)) (l .inv .1),
     )
 
 same-length-2 : tie.Need-same-length-2 Inv-loop μ-loop

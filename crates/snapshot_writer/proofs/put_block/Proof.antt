@@ -60,13 +60,13 @@ returns c =
     let list : List ℕ = g .last .1 .1 .1 .1 .1 .0 in
     let ids = take (g .result .count) list in
     let n : g .result .count ≤ length list = search needs in
-    let few : length ids ≤ 20 = omega (arith, length-take-le (g .result .count) list n, g .ensures .0 .0) in
+    let few : length ids ≤ 5 = omega (arith, length-take-le (g .result .count) list n, g .ensures .0 .0) in
     let are = those-rows (storedIn (a .ids) (a .id-marks .now) (a .locations .now) (a .tallies .now)) (a .ids) (a .from) (a .locations .now) (a .carried .now) ids (p .0 .1) (p .1 .0 .0) (p .1 .0 .1) (g .ensures .1 .0) in
     let can = rows-canWrite ids (a .locations .now) (a .carried .now) _ few (block-length (a .number) (a .file .now) (p .1 .1 .1)) are in (
       g .ensures .0 .1,
       (
         g .ensures .1 .1,
-        block-put (entryFor 8 (a .locations .now) (a .carried .now)) (a .number) (a .file .now) (w .last .1 .1 .1 .1 .0) ids _ (rw can at (w .ensures)) (g .ensures .1 .0),
+        block-put (entryFor 80 (a .locations .now) (a .carried .now)) (a .number) (a .file .now) (w .last .1 .1 .1 .1 .0) ids _ (rw can at (w .ensures)) (g .ensures .1 .0),
       ),
     )
 

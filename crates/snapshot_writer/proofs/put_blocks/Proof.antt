@@ -1,12 +1,12 @@
 -- `put_blocks` meets its contract. The loop's invariant: the blocks written, and those of the ids left, are the file. The measure is the full blocks left; the
--- rows that are left for the last block are at most 20, since the count says so. Assumes nothing.
+-- rows that are left for the last block are at most 5, since the count says so. Assumes nothing.
 use mathlib.Core.Path.{_≡_, refl, _∙_}
 use mathlib.Core.List.{List, _++_, map}
 use Prim.Native.Nat.{ℕ, _-_, _*_, _≤_}
 use native.Mathlib.Omega.{arith}
 use lib.ListN.{length, take, drop}
 use borrow.Author.Needs.{needs}
-use Rattle.snapshot_blocks.specs.Formats.{version1}
+use Rattle.snapshot_blocks.specs.Formats.{version2}
 use Rattle.snapshot_blocks.specs.Blocks.{entryFor}
 use Rattle.snapshot_blocks.specs.Files.{fileOf}
 use Rattle.model.specs.Snapshots.{thoseFrom}
@@ -19,9 +19,9 @@ use Rattle.snapshot_writer.proofs.put_blocks.Tie as tie
 abbrev Inv-loop : tie.InvT-loop
 Inv-loop ids id-marks locations tallies carried rows file₀ last from₀ k₀ file from k =
     ((length file ≡ length file₀) × ((k ≤ last) × (from ≤ ids)))
-    × ((thoseFrom (storedIn ids id-marks locations tallies) (ids - from) from ≡ drop (20 * k) (thoseFrom (storedIn ids id-marks locations tallies) ids 0))
-    × (take (512 * k) file ++ rest (entryFor 8 locations carried) (thoseFrom (storedIn ids id-marks locations tallies) ids 0) last k
-    ≡ fileOf version1 (map (entryFor 8 locations carried) (thoseFrom (storedIn ids id-marks locations tallies) ids 0))))
+    × ((thoseFrom (storedIn ids id-marks locations tallies) (ids - from) from ≡ drop (5 * k) (thoseFrom (storedIn ids id-marks locations tallies) ids 0))
+    × (take (512 * k) file ++ rest (entryFor 80 locations carried) (thoseFrom (storedIn ids id-marks locations tallies) ids 0) last k
+    ≡ fileOf version2 (map (entryFor 80 locations carried) (thoseFrom (storedIn ids id-marks locations tallies) ids 0))))
 
 abbrev μ-loop : tie.MeasureT-loop
 μ-loop ids id-marks locations tallies carried rows file₀ last from₀ k₀ file from k = last - k
@@ -36,7 +36,7 @@ loop-holds c =
       (refl, (omega arith, omega arith)),
       (
         those-all p (a .ids),
-        put-start (entryFor 8 (a .locations .now) (a .carried .now)) (thoseFrom p (a .ids) 0) (c .full-blocks .result) (a .file .now) (last-of (c .full-blocks .result) (a .rows) _ (c .full-blocks .ensures) (c .before .before .before .before .before .before .pre .0 .1)),
+        put-start (entryFor 80 (a .locations .now) (a .carried .now)) (thoseFrom p (a .ids) 0) (c .full-blocks .result) (a .file .now) (last-of (c .full-blocks .result) (a .rows) _ (c .full-blocks .ensures) (c .before .before .before .before .before .before .pre .0 .1)),
       ),
     )
 
@@ -77,7 +77,7 @@ loop-again c =
     let n : length after ≡ length (l .file) = search needs in
     let p = storedIn (a .ids) (a .id-marks .now) (a .locations .now) (a .tallies .now) in
     let every = thoseFrom p (a .ids) 0 in
-    let e = entryFor 8 (a .locations .now) (a .carried .now) in (
+    let e = entryFor 80 (a .locations .now) (a .carried .now) in (
       (n ∙ v .0 .0, (omega (arith, t), w .ensures .0)),
       (
         next-rows e every (l .k) _ _ (v .1 .0) (w .ensures .1 .0),
@@ -117,7 +117,7 @@ returns c =
     let w = c .before .before .put-block2 in
     let p = storedIn (a .ids) (a .id-marks .now) (a .locations .now) (a .tallies .now) in
     let every = thoseFrom p (a .ids) 0 in
-    put-last (entryFor 8 (a .locations .now) (a .carried .now)) every (f .result) (l .k) (l .file) _ _ (c .before .before .before .before .loop-test .left) (v .0 .1 .0) (last-of (f .result) (a .rows) _ (f .ensures) (q .0 .1))
+    put-last (entryFor 80 (a .locations .now) (a .carried .now)) every (f .result) (l .k) (l .file) _ _ (c .before .before .before .before .loop-test .left) (v .0 .1 .0) (last-of (f .result) (a .rows) _ (f .ensures) (q .0 .1))
     (v .0 .0 ∙ q .1 .1 ∙ length-file (a .rows) (f .result) (f .ensures)) (v .1 .0) (w .ensures .1 .1) ∙ v .1 .1
 
 pub put-blocks-spec : {M : Type 1} → statement M

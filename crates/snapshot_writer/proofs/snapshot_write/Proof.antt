@@ -5,7 +5,7 @@ use mathlib.Core.Path.{_≡_, sym, ap, _∙_}
 use Prim.Native.Nat.{ℕ}
 use lib.ListN.{length}
 use borrow.Author.Tests.{not-true, not-false}
-use Rattle.snapshot_blocks.specs.Formats.{version1}
+use Rattle.snapshot_blocks.specs.Formats.{version2}
 use Rattle.snapshot_blocks.specs.Files.{fileLength}
 use Rattle.model.specs.Lending.{everyTable}
 use Rattle.model.specs.Lent.{lentBy}
@@ -46,7 +46,7 @@ returns-2 c =
     let a = c .before .before .before .before .before .before .before .before .before .before .before .before .before .before .args in
     let m = lentBy everyTable (a .caps .ids) (a .caps .slots) (a .id-marks .now) (a .locations .now) (a .slot-marks .now) (a .owners .now) (a .batch .now) (a .tallies .now) (a .carried .now) in
     let f = sym (c .before .before .before .before .before .all-fit .ensures) ∙ not-false (c .before .before .before .before .before .all-fit .result) (c .before .before .before .before .if1 .left) in
-    let n = c .before .before .file-length .ensures ∙ ap (fileLength version1) (c .before .before .before .count .ensures) in
+    let n = c .before .before .file-length .ensures ∙ ap (fileLength version2) (c .before .before .before .count .ensures) in
     leaves-as m (a .file .now) (c .of2 .result) 1 (c .of2 .ensures) (refused-length m (a .file .now) (c .before .before .file-length .result) f n (c .before .if2 .taken))
 
 get-requires : tie.Need-get-requires
@@ -60,7 +60,7 @@ returns-3 c =
     let a = c .before .before .before .before .before .before .before .before .before .before .before .before .before .before .before .before .args in
     let m = lentBy everyTable (a .caps .ids) (a .caps .slots) (a .id-marks .now) (a .locations .now) (a .slot-marks .now) (a .owners .now) (a .batch .now) (a .tallies .now) (a .carried .now) in
     let f = sym (c .before .before .before .before .before .before .before .all-fit .ensures) ∙ not-false (c .before .before .before .before .before .before .before .all-fit .result) (c .before .before .before .before .before .before .if1 .left) in
-    let n = c .before .before .before .before .file-length .ensures ∙ ap (fileLength version1) (c .before .before .before .before .before .count .ensures) in
+    let n = c .before .before .before .before .file-length .ensures ∙ ap (fileLength version2) (c .before .before .before .before .before .count .ensures) in
     leaves-as m (a .file .now) (c .of3 .result) 11 (c .of3 .ensures) (refused-open m (a .file .now) (c .before .before .before .before .file-length .result) f n (c .before .before .before .if2 .left) (λ q. c .before .if3 .taken (c .before .before .get .ensures ∙ q)))
 
 first-bad-requires : tie.Need-first-bad-requires
@@ -77,7 +77,7 @@ returns-4 c =
     let a = c .before .before .before .before .before .before .before .before .before .before .before .before .before .before .before .before .before .before .before .args in
     let m = lentBy everyTable (a .caps .ids) (a .caps .slots) (a .id-marks .now) (a .locations .now) (a .slot-marks .now) (a .owners .now) (a .batch .now) (a .tallies .now) (a .carried .now) in
     let f = sym (c .before .before .before .before .before .before .before .before .before .before .all-fit .ensures) ∙ not-false (c .before .before .before .before .before .before .before .before .before .before .all-fit .result) (c .before .before .before .before .before .before .before .before .before .if1 .left) in
-    let n = c .before .before .before .before .before .before .before .file-length .ensures ∙ ap (fileLength version1) (c .before .before .before .before .before .before .before .before .count .ensures) in
+    let n = c .before .before .before .before .before .before .before .file-length .ensures ∙ ap (fileLength version2) (c .before .before .before .before .before .before .before .before .count .ensures) in
     leaves-verdict m (a .file .now) (c .before .before .before .first-bad .result) _ (c .before .judged .given .1)
     (rows-refusal m (a .file .now) (c .before .before .before .before .before .before .before .file-length .result) f n (c .before .before .before .before .before .before .if2 .left) (sym (c .before .before .before .before .before .get .ensures) ∙ c .before .before .before .before .if3 .left) ∙ sym (c .before .before .before .first-bad .ensures))
 
@@ -99,7 +99,7 @@ returns-5 c =
     let a = c .before .before .before .before .before .before .before .before .before .before .before .before .before .before .before .before .before .before .before .before .before .before .args in
     let m = lentBy everyTable (a .caps .ids) (a .caps .slots) (a .id-marks .now) (a .locations .now) (a .slot-marks .now) (a .owners .now) (a .batch .now) (a .tallies .now) (a .carried .now) in
     let f = sym (c .before .before .before .before .before .before .before .before .before .before .before .before .before .all-fit .ensures) ∙ not-false (c .before .before .before .before .before .before .before .before .before .before .before .before .before .all-fit .result) (c .before .before .before .before .before .before .before .before .before .before .before .before .if1 .left) in
-    let n = c .before .before .before .before .before .before .before .before .before .before .file-length .ensures ∙ ap (fileLength version1) (c .before .before .before .before .before .before .before .before .before .before .before .count .ensures) in
+    let n = c .before .before .before .before .before .before .before .before .before .before .file-length .ensures ∙ ap (fileLength version2) (c .before .before .before .before .before .before .before .before .before .before .before .count .ensures) in
     let w = c .before .before .put-blocks in
     let after : List ℕ = w .last .1 .1 .1 .1 .1 .1 .0 in
     let l : length after ≡ length (a .file .now) = search in

@@ -19,7 +19,7 @@ Inv-loop name text id-marks₀ locations₀ slot-marks₀ owners₀ batch₀ tal
     × (39936 ≡ length owners)
     × (513 ≡ length batch)
     × (473 ≡ length tallies)
-    × (6144 ≡ length carried)
+    × (61440 ≡ length carried)
 
 abbrev μ-loop : tie.MeasureT-loop
 μ-loop name text id-marks₀ locations₀ slot-marks₀ owners₀ batch₀ tallies₀ carried₀ ids₀ slots₀ tally₀ at₀ id-marks locations slot-marks owners batch tallies carried ids slots tally at =
@@ -144,7 +144,7 @@ loop-again c =
     let l = c .before .before .before .before .before .before .before .before .before .before .before .before .before .before .before .before .before .before .before .before .before .before .loop in
     let ids = c .before .before .before .before .before .before .before .before .before .before .before .before .before .before .before .before .before .capacity .result - 0 in
     let all = c .before .before .before .before .before .before .before .before .before .before .before .before .before .before .before .before .capacity2 .result * 78 - 0 in
-    let rows = (c .before .before .before .before .before .before .before .before .before .before .before .before .before .before .before .before .before .capacity .result + 256) * 8 - 0 in
+    let rows = (c .before .before .before .before .before .before .before .before .before .before .before .before .before .before .before .before .before .capacity .result + 256) * 80 - 0 in
     let after = c .before .before .before .before .before .before .before .before .agrees .last .1 .1 in (
       omega (arith, c .before .before .before .before .before .before .before .before .before .before .before .before .before .before .before .before .before .before .before .before .before .loop-test .taken, c .before .before .before .before .before .before .before .before .before .before .before .before .before .before .before .before .before .before .before .before .left .given, c .before .before .before .before .before .before .before .before .before .before .before .before .before .before .before .before .before .before .before .bytes .ensures .1, c .before .before .before .before .before .before .before .before .before .before .before .before .before .before .before .before .before .before .line .given),
       c .before .before .before .before .before .before .before .before .before .before .before .before .before .before .before .before .before .capacity .ensures,

@@ -1,0 +1,103 @@
+-- As `first_long`, where each row is stored. Assumes nothing.
+use mathlib.Core.Path.{_≡_, sym, _∙_}
+use mathlib.Core.Bool.{true, false}
+use Prim.Native.Nat.{_+_, _-_, _*_, _≤_, _<_}
+use native.Mathlib.Omega.{arith}
+use lib.ListN.{length, drop, replicate, length-replicate, getD-replicate}
+use Rattle.carried.specs.Carried.{width}
+use Rattle.keys.specs.Keys.{longIn, firstMet}
+use Rattle.keys.proofs.LawsCode.{not-whole, is-whole, when-whole, long-here, long-turn, long-end}
+use borrow.Author.Needs.{needs}
+use Rattle.keys.proofs.first_long_row.Statement.{statement}
+use Rattle.keys.proofs.first_long_row.Tie as tie
+
+abbrev Inv-loop : tie.InvT-loop
+Inv-loop count rows i₀ i =
+    (i ≤ count) × (length rows ≡ count * width)
+    × (firstMet (longIn (replicate count true) rows) ≡ i + firstMet (longIn (drop i (replicate count true)) (drop (i * width) rows)))
+
+abbrev μ-loop : tie.MeasureT-loop
+μ-loop count rows i₀ i = count - i
+
+whole-requires : tie.Need-whole-requires Inv-loop μ-loop
+whole-requires c κs = search needs
+
+returns : tie.Need-returns Inv-loop μ-loop
+returns c = not-whole _ _ _ _ (c .before .whole .ensures) (c .if1 .taken)
+
+loop-holds : tie.Need-loop-holds Inv-loop μ-loop
+loop-holds c = (search needs, is-whole _ _ _ (c .before .whole .ensures) (c .if1 .left), omega arith)
+
+mul-start : tie.Need-mul-start Inv-loop μ-loop
+mul-start c = search needs
+
+add-end : tie.Need-add-end Inv-loop μ-loop
+add-end c = search needs
+
+sub-is-long : tie.Need-sub-is-long Inv-loop μ-loop
+sub-is-long c = search needs
+
+part-is-long-start : tie.Need-part-is-long-start Inv-loop μ-loop
+part-is-long-start c = search needs
+
+part-is-long-end : tie.Need-part-is-long-end Inv-loop μ-loop
+part-is-long-end c = search needs
+
+is-long-requires : tie.Need-is-long-requires Inv-loop μ-loop
+is-long-requires c κs = search needs
+
+returns-2 : tie.Need-returns-2 Inv-loop μ-loop
+returns-2 c =
+    let n = c .before .before .before .before .before .before .before .before .args .count in
+    let rows = c .before .before .before .before .before .before .before .before .args .rows .now in
+    let l = c .before .before .before .before .loop in
+    let h : l .i < n = omega arith in
+    let e = sym (getD-replicate n (l .i) true false h) in
+    long-here (replicate n true) rows n (l .i) (length-replicate n true) (l .inv .2) true _ h e (c .before .is-long .ensures) (c .if2 .taken)
+    ∙ when-whole _ _ _ _ (l .inv .1)
+
+add-i : tie.Need-add-i Inv-loop μ-loop
+add-i c = search needs
+
+loop-less : tie.Need-loop-less Inv-loop μ-loop
+loop-less c = search needs
+
+loop-again : tie.Need-loop-again Inv-loop μ-loop
+loop-again c =
+    let n = c .before .before .before .before .before .before .before .before .args .count in
+    let rows = c .before .before .before .before .before .before .before .before .args .rows .now in
+    let l = c .before .before .before .before .loop in
+    let h : l .i < n = omega arith in
+    let e = sym (getD-replicate n (l .i) true false h) in (
+      search needs,
+      l .inv .1,
+      long-turn (replicate n true) rows n (l .i) (length-replicate n true) (l .inv .2) true _ h e (c .before .is-long .ensures) (c .if2 .left),
+    )
+
+returns-3 : tie.Need-returns-3 Inv-loop μ-loop
+returns-3 c =
+    let n = c .before .before .before .before .before .args .count in
+    let rows = c .before .before .before .before .before .args .rows .now in
+    let l = c .before .loop in
+    long-end (replicate n true) rows n (l .i) (length-replicate n true) (l .inv .2) (omega arith) ∙ when-whole _ _ _ _ (l .inv .1)
+
+pub first-long-row-spec : {M : Type 1} → statement M
+first-long-row-spec =
+    tie.close
+    (tie.spec
+    Inv-loop
+    μ-loop
+    whole-requires
+    returns
+    loop-holds
+    mul-start
+    add-end
+    sub-is-long
+    part-is-long-start
+    part-is-long-end
+    is-long-requires
+    returns-2
+    add-i
+    loop-less
+    loop-again
+    returns-3)
