@@ -40,6 +40,7 @@ REPEATED_LOCATION = 16
 NOTHING_TO_CUT = 17
 GAP_NOT_ZERO = 18
 WRONG_BLOCK = 19
+KEY_TOO_LONG = 21
 
 
 def refused(answer):
@@ -286,9 +287,10 @@ MOST_UPDATES = 256
 BATCH_WORDS = 1 + 2 * MOST_UPDATES
 ALLOCATORS = 1 + SLABS
 WORD = 2**64
-# The bytes that a row carries: request 2026-01's collection.
-CARRIED_WIDTH = 8
-SNAPSHOT_BLOCK, SNAPSHOT_BLOCK_ROWS = 512, 20
+# The bytes that a row carries: request 2026-01's collection and 2026-06's key, for which there is always the same room.
+LONGEST_KEY = 64
+CARRIED_WIDTH = 80
+SNAPSHOT_BLOCK, SNAPSHOT_BLOCK_ROWS = 512, 5
 
 LEAST_RATIO_T, LARGEST_RATIO_T = 1, 86
 MARGIN = 115
@@ -314,9 +316,35 @@ class Row(NamedTuple):
     location: int
 
 
-def carried_of(collections):
-    """What rows of these collections carry, one after the other."""
-    return b"".join(collection.to_bytes(CARRIED_WIDTH, "little") for collection in collections)
+class Carried(NamedTuple):
+    """What a call is asked to store of a row: a collection, how long the key is said to be, and up to 64 bytes that begin with it."""
+
+    collection: int
+    key_length: int = 0
+    key: bytes = b""
+
+
+def carried_of(rows):
+    """What a call is lent for these, one after the other: two numbers of eight bytes and 64 bytes each."""
+    assert all(len(row.key) <= LONGEST_KEY for row in rows)
+    return b"".join(row.collection.to_bytes(8, "little") + row.key_length.to_bytes(8, "little") + row.key.ljust(LONGEST_KEY, b"\0") for row in rows)
+
+
+def kept_row(collection, key):
+    """A row as the store keeps it: the collection, the key's length in one byte, the key, and zeros."""
+    return (collection.to_bytes(8, "little") + bytes([len(key)]) + key).ljust(CARRIED_WIDTH, b"\0")
+
+
+def key_length_in(lent, row):
+    """How long the key of a lent row is said to be."""
+    return int.from_bytes(lent[CARRIED_WIDTH * row + 8 : CARRIED_WIDTH * row + 16], "little")
+
+
+def kept_of(lent, row):
+    """What the store keeps of a lent row whose key is not too long: no byte past the key."""
+    start = CARRIED_WIDTH * row
+    collection = int.from_bytes(lent[start : start + 8], "little")
+    return kept_row(collection, bytes(lent[start + 16 : start + 16 + key_length_in(lent, row)]))
 
 
 KEEP = "keep"
@@ -358,7 +386,7 @@ class Store:
                    79 words each, for the ids and then each slab; used is 0 where no number was allocated or held by a row
                    since fresh or rebuild
     high           78 high marks
-    carried        (ids + 256) × 8 bytes: a row for each id, then one for each kept update
+    carried        (ids + 256) × 80 bytes, as `kept_row` has them: a row for each id, then one for each kept update; zeros for a Free
     """
 
     TABLES = EVERY_TABLE
@@ -497,13 +525,15 @@ class Store:
                 return Refused(OUT_OF_RANGE, row)
             if location in locations_seen:
                 return Refused(REPEATED_LOCATION, row)
+            if key_length_in(row_carried, row) > LONGEST_KEY:
+                return Refused(KEY_TOO_LONG, row)
             ids_seen.add(id)
             locations_seen.add(location)
         self.clear()
         for row, (id, location) in enumerate(zip(row_ids, row_locations)):
             self.id_marks[id] = HELD
             self.locations[id] = location
-            self.carry(id, row_carried[CARRIED_WIDTH * row : CARRIED_WIDTH * (row + 1)])
+            self.carry(id, kept_of(row_carried, row))
             self.slot_marks[self.at(location)] = HELD
             self.owners[self.at(location)] = id
             self.used[0] = 1
@@ -540,7 +570,7 @@ class Store:
 
     def offer(self, update_ids, stores, lengths, update_carried=None, answer_rows=None):
         """One packed location for each update, 0 for a Free; `answer_rows` is the length of the lent list. Rows carry zeros where nothing is
-        said of it."""
+        said of it. What is lent for a Free to carry is not looked at."""
         if answer_rows is None:
             answer_rows = len(update_ids)
         if update_carried is None:
@@ -559,6 +589,8 @@ class Store:
                 return Refused(NOT_HELD, index)
             if id in seen:
                 return Refused(REPEATED_ID, index)
+            if store and key_length_in(update_carried, index) > LONGEST_KEY:
+                return Refused(KEY_TOO_LONG, index)
             if store and refused(slab_for_size(length)):
                 return Refused(TOO_LARGE, index)
             if self.tables_disagree(id):
@@ -576,7 +608,7 @@ class Store:
         for index, (id, location) in enumerate(zip(update_ids, given)):
             self.batch[1 + index] = id
             self.batch[1 + MOST_UPDATES + index] = location
-            self.carry(self.ids + index, update_carried[CARRIED_WIDTH * index : CARRIED_WIDTH * (index + 1)])
+            self.carry(self.ids + index, kept_of(update_carried, index) if stores[index] else bytes(CARRIED_WIDTH))
         return given
 
     def take_slot(self, slab):

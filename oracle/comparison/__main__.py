@@ -93,9 +93,6 @@ def main():
     missing = sorted(any_tables.EXPECTED ^ seen)
     missing = [f"{name} answers {number} never, or where it may not" for name, number in missing]
     report.part(f"the model over any tables, {calls} calls, kinds of answer", len(seen), missing)
-    doing("snapshots, written and read by Python alone")
-    files, wrong = snapshot.run()
-    report.part("snapshots, written and read by Python alone, files", files, wrong)
     doing("listed differences")
     shown, wrong = differences.run()
     report.part("listed differences, each shown on both sides", shown, wrong)
@@ -106,6 +103,9 @@ def main():
     doing("answers/, replayed on the model")
     answered, wrong = replay.run()
     report.part("answers/ read back and replayed on the model", answered, wrong)
+    doing("snapshots, written and read by Python alone")
+    files, wrong = snapshot.run()
+    report.part("snapshots, written and read by Python alone, files", files, wrong)
     compare_order(report)
     report.end()
 

@@ -12,7 +12,7 @@ import sys
 
 import model
 import snapshot
-from model import DONE, HELD, KEEP, SLABS, SLAB_SIZES, Store, carried_of, refused
+from model import DONE, HELD, KEEP, LONGEST_KEY, SLABS, SLAB_SIZES, Carried, Store, carried_of, refused
 
 from comparison import any_tables, cutoffs, leaves, replay, spoken
 from comparison.beside import HERE, LIBRARY, ask, library_says
@@ -32,6 +32,8 @@ class Lists:
         self.head = [f"# {title}", "# Made by: python3 -m comparison.answers write (in oracle/). Grammar: README.md."]
         self.lines = []
         self.of_rust, self.of_library = [], []
+        # Of the keys, so that the other choices don't hang on them.
+        self.keys = random.Random(title)
 
     def ask(self, line, expected, listed=None):
         """A line for a driver, and what it has to answer for the lines beside it to be the Rust's; `listed` of the library, where that is
@@ -243,6 +245,15 @@ def runs(rows):
         at += count
 
 
+# Lengths that no key has.
+TOO_LONG = (65, 66, 128, 255, 256, 257, 2**32, 2**32 + 1, 2**63, 2**64 - 1)
+
+
+def brought(kept):
+    """What a call is lent for a row to carry what this one does."""
+    return Carried(snapshot.number(kept[:8]), kept[8], bytes(kept[9 : 9 + kept[8]]))
+
+
 class Listed:
     """One store's history: every call written down, granted ones asked of the Rust as well."""
 
@@ -276,37 +287,61 @@ class Listed:
         """What an update of this id carries: another with each batch, in every byte."""
         return self.batches % 256 * 0x0101010101010000 + id % 65_536
 
-    def collections(self, ids):
-        """Of a batch or of a rebuild's rows. The library's driver is told them, the Rust's has no use for them."""
+    def some_key(self, rows, is_store):
+        """(length, bytes that begin with the key): in a few of so many rows, mostly short, with other bytes behind it now and then. Of a Free any
+        length."""
+        keys = self.lists.keys
+        if keys.random() > min(0.4, 4 / rows):
+            return 0, b""
+        length = keys.choice((0, 1, 1, 2, 2, 3, 3, 4, 8, keys.choice((0, 63, 64))))
+        data = keys.randbytes(length + keys.choice((0, 0, 0, 0, 0, 1, 2, keys.choice((0, LONGEST_KEY)))))[:LONGEST_KEY]
+        return (length if is_store else keys.choice((length, *TOO_LONG))), data
+
+    def carried(self, ids, stores, keys=None):
+        """What updates or a rebuild's rows carry. `keys` says the keys, by the row, and there are no others then; else one in forty calls gets one
+        that is too long. The library's driver is told them, the Rust's has no use for them."""
         self.batches += 1
-        return [self.collection(id) for id in ids]
+        if keys is None:
+            keys = {at: self.some_key(len(ids), store) for at, store in enumerate(stores)}
+            if ids and self.lists.keys.random() < 0.025:
+                keys[self.lists.keys.randrange(len(ids))] = (self.lists.keys.choice(TOO_LONG), b"")
+        return [Carried(self.collection(id), *keys.get(at, ())) for at, id in enumerate(ids)]
 
-    def tell_collections(self, collections):
-        self.lists.ask_library(" ".join(["carried", str(len(collections)), *map(str, collections)]), "ok")
+    def tell_carried(self, rows):
+        words = [f"{row.collection} {row.key_length} {replay.digits(row.key)}" for row in rows]
+        self.lists.ask_library(" ".join(["carried", str(len(rows)), *words]), "ok")
 
-    def rebuild(self, rows):
+    def list_keys(self, rows):
+        for at, row in enumerate(rows):
+            if row.key_length or row.key:
+                self.lists.lines.append(f"key {at} {row.key_length} {replay.digits(row.key)}")
+
+    def rebuild(self, rows, keys=None):
         """Rows of objects that are stored carry what they did."""
-        live = {row.id: replay.collection(row.carried) for row in self.store.live_rows()}
-        collections = [live.get(id, other) for (id, _), other in zip(rows, self.collections([id for id, _ in rows]))]
-        for at, count, first, steps in runs([(*row, collection) for row, collection in zip(rows, collections)]):
+        new = self.carried([id for id, _ in rows], [True] * len(rows), keys)
+        live = {row.id: brought(row.carried) for row in self.store.live_rows()} if keys is None else {}
+        carried = [live.get(id, other) for (id, _), other in zip(rows, new)]
+        for at, count, first, steps in runs([(*row, other.collection) for row, other in zip(rows, carried)]):
             columns = " ".join(f"{number} {step}" for number, step in zip(first, steps))
             self.lists.lines.append(f"row {at} {count} {columns}")
-        self.tell_collections(collections)
-        answer = self.store.rebuild(*(list(zip(*rows)) or [(), ()]), carried_of(collections))
+        self.list_keys(carried)
+        self.tell_carried(carried)
+        answer = self.store.rebuild(*(list(zip(*rows)) or [(), ()]), carried_of(carried))
         self.note(f"rebuild {len(rows)}", answer, spoken.rebuild(rows), "ok", "ok")
 
-    def offer(self, rows):
+    def offer(self, rows, keys=None):
         """Updates, the call, then what the lent list holds."""
-        collections = self.collections([id for id, _, _ in rows])
+        carried = self.carried([id for id, _, _ in rows], [is_store for _, is_store, _ in rows], keys)
         for kind_at, kind_rows in same_kind(rows):
-            kept = [(id, collections[kind_at + at]) for at, (id, _, _) in enumerate(kind_rows)]
+            kept = [(id, carried[kind_at + at].collection) for at, (id, _, _) in enumerate(kind_rows)]
             for run_at, count, (id, collection), (step, collection_step) in runs(kept):
                 _, is_store, length = kind_rows[run_at]
                 kind = "store" if is_store else "free"
                 self.lists.lines.append(f"update {kind_at + run_at} {count} {id} {step} {kind} {length} {collection} {collection_step}")
-        answer = self.store.offer(*(list(zip(*rows)) or [(), (), ()]), carried_of(collections))
+        self.list_keys(carried)
+        answer = self.store.offer(*(list(zip(*rows)) or [(), (), ()]), carried_of(carried))
         if not (self.on_files and refused(answer)):
-            self.tell_collections(collections)
+            self.tell_carried(carried)
         rust_line = None if self.on_files else f"offer {spoken.updates(rows)}"
         said = "" if refused(answer) else spoken.ok(*answer)
         if not self.note(f"offer {len(rows)}", answer, rust_line, said, "ok"):
@@ -327,7 +362,7 @@ class Listed:
     def lookup(self, id):
         answer = self.store.lookup(id)
         location, carried = (0, b"") if refused(answer) else answer
-        listed = f"ok {location} {replay.collection(carried)}"
+        listed = f"ok {location} {replay.kept_told(carried)}"
         self.lists.ask_library(f"found {id}", answer if refused(answer) else listed)
         self.note(f"lookup {id}", answer, f"lookup {id}", spoken.ok(location), listed)
 
@@ -524,11 +559,11 @@ def named_cases(lists, chance):
     listed.commit()
     listed.release()
     listed.defrag(0x3F400000)
-    for ids, slots in ((2, 1), (300, 255), (300, 256), (300, 512)):
+    for ids, slots, counts in ((2, 1, (0, 1, 2)), (300, 255, (255, 256)), (300, 256, (0, 1, 4, 5, 6, 256, 257)), (300, 512, (10, 11, 256))):
         listed = Listed(lists, chance, ids, slots, [3], False)
         for _ in range(ids):
             listed.new_id()
-        for count in (0, 1, 19, 20, 21, 40, 255, 256, 257):
+        for count in counts:
             if listed.offer([(id, True, 3) for id in range(1, count + 1)]):
                 listed.commit()
             listed.snapshot()
@@ -545,12 +580,87 @@ def stores_list():
     chance = random.Random(3)
     lists = Lists("mapper", "Histories of small stores on the mapper: the Rust's answers, and the model's refusals.")
     named_cases(lists, chance)
+    keys_kept(lists, chance)
+    keys_refused(lists, chance)
     for _ in range(110):
         random_history(lists, chance, chance.randint(2, 12), chance.randint(1, 9), False, 35)
-    for _ in range(6):
-        random_history(lists, chance, chance.randint(200, 512), chance.randint(64, 512), False, 30)
+    for _ in range(3):
+        random_history(lists, chance, chance.randint(200, 300), chance.randint(64, 512), False, 30)
     cut_edges(lists, chance)
     return lists
+
+
+def keys_kept(lists, chance):
+    """Keys of every kind of length, with other bytes behind them; one that another takes the place of, shorter or none; a Free's, of any length; one
+    abandoned; and each of them over a rebuild."""
+    behind = bytes(range(1, LONGEST_KEY + 1))
+    listed = Listed(lists, chance, 9, 12, [3], False)
+    for _ in range(8):
+        listed.new_id()
+    every = lambda: ([listed.lookup(id) for id in range(1, 9)], listed.snapshot())
+    listed.offer([(id, True, 3) for id in range(1, 9)], {at: (length, behind) for at, length in enumerate((0, 1, 2, 31, 62, 63, 64))})
+    listed.commit()
+    every()
+    # Those with a longer key get a shorter one, and the other way round; zeros are a key as other bytes are.
+    listed.offer([(1, True, 3), (7, True, 3), (8, True, 3)], {0: (64, b"\xff" * 64), 1: (3, b"new"), 2: (5, b"")})
+    listed.lookup(1)
+    listed.commit()
+    every()
+    listed.offer([(6, True, 3)], {0: (7, b"nothing")})
+    listed.abandon()
+    listed.release()
+    listed.offer([(2, False, 0), (3, False, 0), (4, True, 3)], {0: (65, behind), 1: (2**64 - 1, b""), 2: (0, b"")})
+    listed.commit()
+    every()
+    listed.release()
+    listed.new_id()
+    listed.offer([(2, True, 3)], {})
+    listed.commit()
+    listed.rebuild([(id, listed.store.locations[id]) for id in range(8, 0, -1) if listed.store.locations[id]])
+    every()
+    listed.rebuild([(1, 2**56 + 4), (2, 2**56), (3, 2**57 + 1)], {0: (0, behind), 1: (64, behind), 2: (2, behind)})
+    every()
+
+
+def keys_refused(lists, chance):
+    """21 beside each other refusal of an update or of a row: in the same one, before it and after it. 13 is in tables.txt."""
+    listed = Listed(lists, chance, 5, 2, [3], False)
+    for _ in range(3):
+        listed.new_id()
+    listed.offer([(1, True, 3)], {0: (64, b"\xff" * 64)})
+    listed.commit()
+    good = (2, True, 3)
+    for length in TOO_LONG:
+        listed.offer([(1, True, 3)], {0: (length, b"long")})
+    # An id that is not held, one for the second time, an object that is too large; and a Free of each, whose key is not looked at.
+    for others, bad in (([], (4, True, 3)), ([], (0, True, 3)), ([(1, True, 3)], (1, True, 3)), ([], (1, True, 2**35)),
+                        ([], (4, False, 0)), ([(1, True, 3)], (1, False, 0)), ([], (1, False, 0))):  # fmt: skip
+        at = len(others)
+        for rows, long in (([bad], (at,)), ([bad, good], (at + 1,)), ([good, bad], (at,)), ([good, bad], (at + 1,)), ([good, bad], (at, at + 1))):
+            if listed.offer(others + rows, {row: (65, b"") for row in long}):
+                listed.abandon()
+    # Before 10, which no update has of its own; after 11 and 15.
+    listed.offer([(1, True, 3), (2, True, 3), (3, True, 3)], {})
+    listed.offer([(1, True, 3), (2, True, 3), (3, True, 3)], {2: (65, b"")})
+    listed.offer([good] * 257, {0: (65, b"")})
+    listed.offer([good], {})
+    listed.offer([good], {0: (65, b"")})
+    listed.commit()
+    listed.lookup(1)
+    listed.lookup(2)
+    listed.snapshot()
+    # An id out of range, one for the second time, a location that is none, one for the second time.
+    first, second, third = 2**56, 2**56 + 1, 2**57
+    good = (2, second)
+    for others, bad in (([], (0, first)), ([], (5, first)), ([(1, first)], (1, third)), ([], (1, 0)), ([], (1, 2**56 + 2)), ([(3, first)], (1, first)),
+                        ([], (1, first))):  # fmt: skip
+        at = len(others)
+        for rows, long in (([bad], (at,)), ([bad, good], (at + 1,)), ([good, bad], (at,)), ([good, bad], (at + 1,))):
+            listed.rebuild(others + rows, {row: (65, b"") for row in long})
+    for length in TOO_LONG:
+        listed.rebuild([good, (1, first)], {0: (64, b""), 1: (length, b"\xff" * 64)})
+    listed.lookup(1)
+    listed.lookup(2)
 
 
 def cut_edges(lists, chance):
@@ -577,23 +687,28 @@ def cut_edges(lists, chance):
 def snapshot_files():
     """(file, positions to step from): whole ones, those that are wrong in one thing, and each kind of position."""
     start = snapshot.Position(0, 0)
-    for count in (0, 1, 2, 19, 20, 21, 39, 40, 41, 60):
-        file, positions = snapshot.write(snapshot.some_rows(count)), [start]
-        while positions[-1] != snapshot.END:
-            answer = snapshot.step(file, positions[-1])
-            positions.append(answer if answer == snapshot.END else answer[1])
-        positions.pop()
-        yield file, positions if count < 3 else [start, positions[len(positions) // 2], *positions[-2:]]
-    for length in (0, 1, 511, 513, 1_023, 1_025):
-        yield bytes(length), [start]
-    for what, file, refusal in snapshot.bad_files():
-        if len(file) % snapshot.BLOCK == 0:
-            yield file, [snapshot.Position(refusal.index, 0)]
-    for file, position, _ in snapshot.bad_positions():
-        if len(file) % snapshot.BLOCK == 0:
-            yield file, [position]
+    for version, counts in ((1, (0, 1, 2, 19, 20, 21, 40, 41, 60)), (2, (0, 1, 2, 4, 5, 6, 9, 10, 11, 15))):
+        for count in counts:
+            file, positions = snapshot.some_file(count, version), [start]
+            while positions[-1] != snapshot.END:
+                answer = snapshot.step(file, positions[-1])
+                positions.append(answer if answer == snapshot.END else answer.next)
+            positions.pop()
+            yield file, positions if count in (1, 2, 6) else [start, positions[len(positions) // 2], *positions[-2:]]
     # Ids from 0 on: a rebuild refuses that row.
     yield snapshot.write([snapshot.Row(id, 0, 0) for id in range(3)]), [start]
+    for length in (0, 1, 511, 513, 1_023, 1_025):
+        yield bytes(length), [start]
+
+
+def wrong_files():
+    """(file, a position to step from)"""
+    for what, file, refusal in snapshot.bad_files():
+        if len(file) % snapshot.BLOCK == 0:
+            yield file, snapshot.Position(refusal.index, 0)
+    for file, position, _ in snapshot.bad_positions():
+        if len(file) % snapshot.BLOCK == 0:
+            yield file, position
 
 
 def list_file(lists, file):
@@ -601,28 +716,35 @@ def list_file(lists, file):
     lists.lines.append(f"file {len(file)}")
     for first in range(0, len(file) - snapshot.BLOCK + 1, snapshot.BLOCK):
         block = file[first : first + snapshot.BLOCK]
-        fields = [(0, 4), (4, 2), (6, 2), *((at, 1) for at in range(snapshot.HEAD + snapshot.ROW * snapshot.ROWS, snapshot.CHECK))]
-        fields = [(at, width, snapshot.number(block[at : at + width])) for at, width in fields]
+        fields = [(at, width, snapshot.number(block[at : at + width])) for at, width in ((0, 4), (4, 2), (6, 2))]
         lists.lines += [f"number {first + at} {width} {value}" for at, width, value in fields if value]
-        starts = range(snapshot.HEAD, snapshot.HEAD + snapshot.ROW * snapshot.ROWS, snapshot.ROW)
-        rows = [tuple(snapshot.number(block[at + part : at + part + 8]) for part in (0, 8, 16)) for at in starts]
-        for at, count, words, steps in runs(rows):
-            if any(words + tuple(steps)):
-                columns = " ".join(f"{word} {step}" for word, step in zip(words, steps))
-                lists.lines.append(f"filled {first + starts[at]} {count} {columns}")
+        # Rows as the version has them, or, where it is another, as they are said shortest.
+        lists.lines += min((rows_said(block, first, width) for width in snapshot.ROW.values()), key=len)
         if snapshot.signed(block[: snapshot.CHECK]) == block:
             lists.lines.append(f"sign {first}")
         else:
             lists.lines.append(f"number {first + snapshot.CHECK} 4 {snapshot.number(block[snapshot.CHECK :])}")
 
 
-def list_calls(lists, file, positions):
-    most = snapshot.ROWS * (len(file) // snapshot.BLOCK)
+def rows_said(block, first, width):
+    """The lines of a block's rows, of so many bytes each: the three numbers of each, and what follows them that is not zero."""
+    starts = range(snapshot.HEAD, snapshot.HEAD + 480, width)
+    rows = [tuple(snapshot.number(block[at + part : at + part + 8]) for part in (0, 8, 16)) for at in starts]
+    lines = []
+    for at, count, words, steps in runs(rows):
+        if any(words + tuple(steps)):
+            columns = " ".join(f"{word} {step}" for word, step in zip(words, steps))
+            lines.append(f"filled {first + starts[at]} {count} {width} {columns}")
+    others = [(at + 24, at + width) for at in starts] + [(starts.stop, snapshot.CHECK)]
+    return lines + [f"bytes {first + at} {replay.digits(block[at:end])}" for at, end in others if any(block[at:end])]
+
+
+def list_calls(lists, file, positions, lent):
+    """Steps from these positions, and reads into lists with so many rows more than needed."""
+    most = snapshot.most_rows(file)
     made = replay.File(0)
     made.data = bytearray(file)
-    calls = [("step", position) for position in positions] + [("read", (rows,)) for rows in (most, most + 1)]
-    if most and not positions[0].block:
-        calls.append(("read", (most - 1,)))
+    calls = [("step", position) for position in positions] + [("read", (most + more,)) for more in lent if most + more >= 0]
     lists.lines += [f"model {name} {' '.join(map(str, words))} {getattr(made, name)(*words)}" for name, words in calls]
 
 
@@ -630,7 +752,10 @@ def snapshots_list():
     lists = ModelLists("mapper", "Snapshot files, read row by row and at once: the answers of snapshot.py alone.")
     for file, positions in snapshot_files():
         list_file(lists, file)
-        list_calls(lists, file, positions)
+        list_calls(lists, file, positions, (0, 1, -1))
+    for at, (file, position) in enumerate(wrong_files()):
+        list_file(lists, file)
+        list_calls(lists, file, [position], (0,) if at % 8 else (0, -1))
     return lists
 
 
@@ -721,7 +846,7 @@ class ModelLists(Lists):
 
 def entries(store):
     """(table, place): value, of all that the rules can see; marks and used words as they are read."""
-    shown = {("carried", row): replay.collection(store.carried_by(row)) for row in range(store.ids + model.MOST_UPDATES)}
+    shown = {("carried", row): replay.kept_told(store.carried_by(row)) for row in range(store.ids + model.MOST_UPDATES)}
     for table in Store.TABLES[:-1]:
         for at, value in enumerate(getattr(store, table)):
             if table == "batch" and at and (at - 1) % 256 >= (store.batch[0] - 1 if 0 < store.batch[0] <= 257 else 0):
@@ -746,7 +871,7 @@ def list_any_tables(lists, chance):
         for at, value in enumerate(getattr(store, table)):
             if value and (table, at) in shown:
                 lists.lines.append(f"poke {table} {at} {value}")
-    lists.lines += [f"poke {table} {at} {value}" for (table, at), value in shown.items() if table == "carried" and value]
+    lists.lines += [f"poke {table} {at} {value}" for (table, at), value in shown.items() if table == "carried" and value != "0 -"]
     some_id = lambda: chance.choice((0, 1, 1, 1, ids - 1, ids - 1, ids - 1, ids, 2**64 - 1))
     slab, t = chance.choice((0, 0, 1, 77, 78)), chance.choice((1, 80, 86, 86, 0, 87))
     rows = [(some_id(), True, 3), (some_id(), False, 0), (some_id(), True, chance.choice((60, 60, 2**35)))]
@@ -787,7 +912,20 @@ def tables_list():
     lists = ModelLists("mapper", "Tables that no history reaches: the model's answers alone.")
     for _ in range(200):
         list_any_tables(lists, chance)
+    keys_in_tables(lists, chance)
     return lists
+
+
+def keys_in_tables(lists, chance):
+    """21 beside 13: in the same update, before it and after it. Id 1's slot is not held, id 2's is."""
+    listed = Listed(lists, chance, 3, 2, [3], False)
+    for table, at, value in (("id_marks", 1, HELD), ("id_marks", 2, HELD), ("locations", 1, 2**56)):
+        getattr(listed.store, table)[at] = value
+        lists.lines.append(f"poke {table} {at} {value}")
+    bad, good = (1, True, 3), (2, True, 3)
+    for rows, long in (([bad], ()), ([bad], (0,)), ([bad, good], (1,)), ([good, bad], (0,)), ([good, bad], (1,)), ([good, bad], ())):
+        listed.offer(rows, {row: (65, b"") for row in long})
+    listed.offer([(1, False, 0)], {0: (65, b"")})
 
 
 FILES = {

@@ -1,6 +1,6 @@
 """The model alone, over tables that no history reaches: every call ends in an answer, and a refusal writes nothing."""
 
-from model import BATCH_WORDS, CARRIED_WIDTH, SLABS, SNAPSHOT_BLOCK, Store, carried_of, pack, refused
+from model import BATCH_WORDS, CARRIED_WIDTH, LONGEST_KEY, SLABS, SNAPSHOT_BLOCK, Carried, Store, carried_of, kept_row, pack, refused
 
 from comparison.histories import RATIOS
 from comparison.progress import counted
@@ -45,8 +45,23 @@ def any_store(chance, ids, slots):
         counters[chance.randrange(SLABS + 1)] = 2**64 - 1
     # The rows of the ids, and of the first kept updates.
     for row in range(ids + 3):
-        store.carry(row, carried_of([(row + 1) * 0x1122334455667788 % 2**64]))
+        store.carry(row, any_kept(chance, row))
     return store
+
+
+def any_kept(chance, row):
+    """Mostly a row that a store keeps, with a short key or none; else any bytes, of which the last may be all that there are."""
+    collection = (row + 1) * 0x1122334455667788 % 2**64
+    if chance.random() < 0.8:
+        return kept_row(collection, chance.randbytes(chance.choice((0, 0, 1, 4, LONGEST_KEY))))
+    return chance.choice((chance.randbytes(CARRIED_WIDTH), bytes(CARRIED_WIDTH - 1) + b"\1", bytes([255]) * CARRIED_WIDTH))
+
+
+def any_carried(chance, most_wrong):
+    """A key of any length up to 64, rarely a longer one, in any bytes."""
+    too_long = chance.choice((65, 72, 255, 256, 320, 2**32, 2**63, 2**64 - 1))
+    length = too_long if chance.random() < most_wrong else chance.choice((0, 0, 1, 2, 63, 64))
+    return Carried(chance.randrange(2**64), length, chance.randbytes(chance.choice((0, 3, LONGEST_KEY))))
 
 
 def any_call(chance, store):
@@ -56,17 +71,19 @@ def any_call(chance, store):
     rows = [(some_id(), chance.random() < 0.8, chance.choice((3, 3, 3, 60, 2**35))) for _ in range(3)]
     rows = rows[: chance.randint(0, 3)] if chance.random() < 0.95 else rows * 86
     columns = [list(column) for column in zip(*rows)] or [[], [], []]
-    carried = chance.randbytes(CARRIED_WIDTH * len(rows))
+    carried = carried_of([any_carried(chance, 0.1) for _ in rows])
     if chance.random() < 0.1:
         columns[chance.randrange(3)].append(1)
     elif chance.random() < 0.05:
-        carried += bytes(1)
+        carried = chance.choice((carried + bytes(1), carried[:-1], carried + bytes(CARRIED_WIDTH), bytes(8 * len(rows))))
     slab, t = chance.choice((0, 0, 1, 1, 77, 77, 78, 2**64 - 1)), chance.choice((0, 1, 80, 86, 86, 87))
     bits = chance.choice(RATIOS + (0, 0x80000000, 0x7F800000, 0x7FC00000, 0x3F800001))
     good = lambda: pack(store.slots, chance.choice((0, 77)), 0)
     row_locations = [any_word(chance, store) if chance.random() < 0.2 else good() for _ in range(chance.randint(0, 3))]
     row_ids = [some_id() for _ in row_locations]
-    row_carried = chance.randbytes(CARRIED_WIDTH * len(row_ids) + (chance.random() < 0.05))
+    row_carried = carried_of([any_carried(chance, 0.1) for _ in row_ids])
+    if chance.random() < 0.05:
+        row_carried = chance.choice((row_carried + bytes(1), row_carried[:-1]))
     file_length = store.snapshot_bytes() if len(store.id_marks) == len(store.locations) == store.ids else SNAPSHOT_BLOCK
     file_length += chance.choice((0, 0, 0, 0, 0, 0, SNAPSHOT_BLOCK, -SNAPSHOT_BLOCK, 1))
     return chance.choice((
@@ -99,7 +116,7 @@ def run(chance, count):
 
 # Every refusal that the documents' orders list for a store call.
 LISTED = {
-    "new_id": (1, 11, 10), "release": (1, 11), "offer": (1, 11, 15, 8, 9, 2, 13, 10), "rebuild": (1, 8, 9, 3, 16),
+    "new_id": (1, 11, 10), "release": (1, 11), "offer": (1, 11, 15, 8, 9, 21, 2, 13, 10), "rebuild": (1, 8, 9, 3, 16, 21),
     "lookup": (1, 8, 13), "truncation": (1, 11, 3, 14), "report": (1, 11, 3, 14, 17), "defrag": (1, 11, 14),
     "commit": (1, 12, 13), "abandon": (1, 12, 13), "fresh": (1,), "counters": (1,),
     "snapshot_length": (1, 11), "snapshot_write": (1, 11, 13),

@@ -9,7 +9,7 @@ import sys
 
 import model
 import snapshot
-from model import KEEP, Store, carried_of, refused
+from model import CARRIED_WIDTH, KEEP, LONGEST_KEY, Carried, Store, carried_of, refused
 
 from comparison.beside import HERE
 
@@ -57,14 +57,25 @@ def cut_told(answer):
     return KEEP if answer == KEEP else f"cut {answer.length} {answer.given_back}"
 
 
-def collection(carried):
-    return int.from_bytes(carried, "little")
+def digits(data):
+    """Bytes in hex, without the zeros at their end; - for none."""
+    return data.rstrip(b"\0").hex() or "-"
+
+
+def kept_told(carried):
+    """A row as the store keeps it: its collection as a number, and the bytes behind it."""
+    return f"{int.from_bytes(carried[:8], 'little')} {digits(carried[8:])}"
+
+
+def kept_row(words):
+    """The same, read."""
+    row = words.number().to_bytes(8, "little") + words.hex()
+    return row.ljust(CARRIED_WIDTH, b"\0")
 
 
 def file_check(rows):
     """The check of ISO 3309 over the bodies of the blocks of a store's file, by which a list says the file."""
-    file = snapshot.write([snapshot.Row(row.id, collection(row.carried), row.location) for row in rows])
-    return model.crc32(snapshot.bodies(file))
+    return model.crc32(snapshot.bodies(snapshot.write_kept(rows)))
 
 
 def leaf(name, words):
@@ -121,19 +132,30 @@ class File:
         assert at + width <= len(self.data)
         self.data[at : at + width] = value.to_bytes(width, "little")
 
-    def filled(self, at, count, *columns):
+    def filled(self, at, count, width, *columns):
         for row, words in enumerate(runs(count, columns[0:2], columns[2:4], columns[4:6])):
             for part, word in enumerate(words):
-                self.number(at + snapshot.ROW * row + 8 * part, 8, word)
+                self.number(at + width * row + 8 * part, 8, word)
+
+    def bytes(self, at, data):
+        assert at + len(data) <= len(self.data)
+        self.data[at : at + len(data)] = data
 
     def sign(self, at):
         self.data[at : at + snapshot.BLOCK] = snapshot.signed(self.data[at : at + snapshot.CHECK])
+
+    def made(self, name, words):
+        """A line that makes it."""
+        if name == "bytes":
+            self.bytes(words.number(), words.hex())
+        else:
+            getattr(self, name)(*words.numbers(len(words.rest)))
 
     def step(self, block, row):
         answer = snapshot.step(bytes(self.data), snapshot.Position(block, row))
         if refused(answer):
             return told(answer)
-        return answer if answer == snapshot.END else told(None, *answer[0], *answer[1])
+        return answer if answer == snapshot.END else told(None, *answer.row[:3], *answer.next, answer.key_at, len(answer.row.key))
 
     def read(self, rows):
         answer = snapshot.read(bytes(self.data), rows, rows, model.CARRIED_WIDTH * rows)
@@ -143,7 +165,7 @@ class File:
 class Replay:
     def __init__(self):
         self.store = self.file = None
-        self.updates, self.rows = [], []
+        self.updates, self.rows, self.keys = [], [], {}
         self.given, self.listed, self.counted = [], [], []
 
     def line(self, text):
@@ -171,17 +193,30 @@ class Replay:
         assert at == len(self.rows)
         self.rows += runs(count, columns[0:2], columns[2:4], columns[4:6])
 
+    def line_key(self, words, text):
+        at, length, data = words.number(), words.number(), words.hex()
+        assert at < max(len(self.updates), len(self.rows)) and len(data) <= LONGEST_KEY
+        self.keys[at] = (length, data)
+
+    def carried(self, collections):
+        """What the rows of the next call carry."""
+        keys, self.keys = self.keys, {}
+        return carried_of([Carried(collection, *keys.get(at, ())) for at, collection in enumerate(collections)])
+
     def line_file(self, words, text):
         self.file = File(words.number())
 
     def line_number(self, words, text):
-        self.file.number(*words.numbers(3))
+        self.file.made("number", words)
 
     def line_filled(self, words, text):
-        self.file.filled(*words.numbers(8))
+        self.file.made("filled", words)
+
+    def line_bytes(self, words, text):
+        self.file.made("bytes", words)
 
     def line_sign(self, words, text):
-        self.file.sign(words.number())
+        self.file.made("sign", words)
 
     def line_slot(self, words, text):
         at, count, location, step = words.numbers(4)
@@ -198,15 +233,15 @@ class Replay:
         return "counted {} {} {}".format(number, *self.counted[number])
 
     def line_poke(self, words, text):
-        table, at, value = words.word(), words.number(), words.number()
+        table, at = words.word(), words.number()
         if table == "carried":
-            self.store.carry(at, carried_of([value]))
+            self.store.carry(at, kept_row(words))
         else:
-            getattr(self.store, table)[at] = value
+            getattr(self.store, table)[at] = words.number()
 
     def line_peek(self, words, text):
-        table, at, _ = words.word(), words.number(), words.number()
-        value = collection(self.store.carried_by(at)) if table == "carried" else getattr(self.store, table)[at]
+        table, at = words.word(), words.number()
+        value = kept_told(self.store.carried_by(at)) if table == "carried" else getattr(self.store, table)[at]
         return f"peek {table} {at} {value}"
 
     def call(self, name, words):
@@ -220,18 +255,18 @@ class Replay:
             return told(answer, answer)
         if name == "lookup":
             answer = store.lookup(words.number())
-            return told(answer) if refused(answer) else told(answer, answer.location, collection(answer.carried))
+            return told(answer) if refused(answer) else told(answer, answer.location, kept_told(answer.carried))
         if name == "offer":
             rows, self.updates = self.updates, []
             assert words.number() == len(rows)
             *columns, collections = list(zip(*rows)) or [(), (), (), ()]
-            self.given = store.offer(*columns, carried_of(collections))
+            self.given = store.offer(*columns, self.carried(collections))
             return told(self.given)
         if name == "rebuild":
             rows, self.rows = self.rows, []
             assert words.number() == len(rows)
             *columns, collections = list(zip(*rows)) or [(), (), ()]
-            return told(store.rebuild(*columns, carried_of(collections)))
+            return told(store.rebuild(*columns, self.carried(collections)))
         if name == "snapshot_length":
             answer = store.snapshot_length()
             return told(answer, answer)

@@ -10,6 +10,13 @@ from comparison.beside import DRIVER, HERE
 
 ORACLE = os.path.join(HERE, "..")
 
+# Tests of the model, two of which change places.
+REPEATED = "            if id in seen:\n                return Refused(REPEATED_ID, index)\n"
+LONG_KEY = "            if store and key_length_in(update_carried, index) > LONGEST_KEY:\n                return Refused(KEY_TOO_LONG, index)\n"
+TOO_LARGE = "            if store and refused(slab_for_size(length)):\n                return Refused(TOO_LARGE, index)\n"
+SAME_PLACE = "            if location in locations_seen:\n                return Refused(REPEATED_LOCATION, row)\n"
+LONG_ROW = "            if key_length_in(row_carried, row) > LONGEST_KEY:\n                return Refused(KEY_TOO_LONG, row)\n"
+
 # (what goes wrong, file, text, wrong text)
 WRONG = [
     ("frame width by object size", "oracle/model.py", "    if size <= 65_535:\n", "    if size <= 65_536:\n"),
@@ -38,21 +45,40 @@ WRONG = [
     ("a refusal that writes", "oracle/model.py", "            return Refused(NO_BATCH)\n",
      "            self.granted[0] += 1\n            return Refused(NO_BATCH)\n"),
     ("a refusal never given", "oracle/model.py", "            return Refused(NOTHING_TO_CUT)\n", "            return DONE\n"),
-    ("an offer that keeps nothing of what rows carry", "oracle/model.py", "            self.carry(self.ids + index, update_carried",
-     "            (self.ids + index, update_carried"),
+    ("an offer that keeps nothing of what rows carry", "oracle/model.py", "            self.carry(self.ids + index, kept_of(",
+     "            (self.ids + index, kept_of("),
     ("a freed id's row still carries", "oracle/model.py", "                self.carry(id, bytes(CARRIED_WIDTH))\n", ""),
     ("a snapshot of what is pending", "oracle/model.py", "if self.id_held(id) and self.locations[id]]", "if self.locations[id]]"),
     ("a contradiction in a snapshot", "oracle/model.py", "            if self.tables_disagree(row.id):\n", "            if False:\n"),
     ("another location in a snapshot", "oracle/model.py", "Row(id, self.carried_by(id), self.locations[id])",
      "Row(id, self.carried_by(id), self.locations[id] ^ 1)"),
-    ("the last byte of a snapshot's padding", "oracle/snapshot.py", "any(data[HEAD + ROW * count : CHECK])",
-     "any(data[HEAD + ROW * count : CHECK - 1])"),
+    ("a key of 65 bytes", "oracle/model.py", "            if store and key_length_in(update_carried, index) > LONGEST_KEY:\n",
+     "            if store and key_length_in(update_carried, index) > LONGEST_KEY + 1:\n"),
+    ("a key of 65 bytes in a rebuild", "oracle/model.py", "            if key_length_in(row_carried, row) > LONGEST_KEY:\n",
+     "            if key_length_in(row_carried, row) > LONGEST_KEY + 1:\n"),
+    ("a Free's key looked at", "oracle/model.py", "            if store and key_length_in(update_carried, index)",
+     "            if key_length_in(update_carried, index)"),
+    ("21 after 2", "oracle/model.py", LONG_KEY + TOO_LARGE, TOO_LARGE + LONG_KEY),
+    ("21 before 9", "oracle/model.py", REPEATED + LONG_KEY, LONG_KEY + REPEATED),
+    ("21 before 16", "oracle/model.py", SAME_PLACE + LONG_ROW, LONG_ROW + SAME_PLACE),
+    ("what stands behind a key kept", "oracle/model.py", "start + 16 : start + 16 + key_length_in(lent, row)]", "start + 16 : start + CARRIED_WIDTH]"),
+    ("a key not kept", "oracle/model.py", "bytes([len(key)]) + key)", "bytes([len(key)]))"),
+    ("a snapshot without keys", "oracle/snapshot.py", "+ row.carried[8:] for row in rows])", "+ bytes(72) for row in rows])"),
+    ("a key not read", "oracle/snapshot.py", "return Row(*words, bytes(key))", "return Row(*words)"),
+    ("a gap not tested", "oracle/snapshot.py", "length > LONGEST_KEY or any(row[KEY + length :])", "length > LONGEST_KEY"),
+    ("a row's last zero not tested", "oracle/snapshot.py", "any(row[KEY + length :])", "any(row[KEY + length : -1])"),
+    ("a key of any length in a block", "oracle/snapshot.py", "length > LONGEST_KEY or any(", "any("),
+    ("versions mixed", "oracle/snapshot.py", "        if version_of(before) != version:\n            return WRONG_BLOCK\n", ""),
+    ("version 3 taken for 2", "oracle/snapshot.py", "    version = version_of(data)\n", "    version = min(2, version_of(data))\n"),
+    ("the last byte of a snapshot's padding", "oracle/snapshot.py", "any(data[HEAD + width * count : CHECK])",
+     "any(data[HEAD + width * count : CHECK - 1])"),
     ("a snapshot's order from block to block", "oracle/snapshot.py", "    if block > 0:\n", "    if block > 1:\n"),
     ("a snapshot without rows and without a block", "oracle/snapshot.py", " or [[]]", ""),
     ("a snapshot's check not looked at", "oracle/snapshot.py", "    if signed(data[:CHECK]) != data:\n        return CHECK_DIFFERS\n", ""),
     ("one digit of a leaf's answer", "oracle/answers/leaves.txt", "rust class 59 ok 0", "rust class 59 ok 1"),
     ("one line of a history lost", "oracle/answers/stores.txt", "rust release ok\n", ""),
     ("a collection looked up", "oracle/answers/stores.txt", "rust lookup 1 ok 72057594037927936 ", "rust lookup 1 ok 72057594037927936 1"),
+    ("a key that was offered", "oracle/answers/stores.txt", "\nkey 1 1 01", "\nkey 1 1 02"),
     ("one row of a snapshot", "oracle/answers/snapshots.txt", "filled 8 ", "filled 9 "),
     ("one number of a cut", "oracle/answers/files.txt", "model truncation 0 80 cut ", "model truncation 0 80 cut 1"),
     ("a difference struck off the list", "docs/DIFFERENCES.md", "`class 65529`", "`class 65530`"),

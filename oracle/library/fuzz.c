@@ -100,12 +100,12 @@ static const struct {
 } listed[CALLS] = {
     {"new_id", "\1\13\12"},
     {"lookup", "\1\10\15"},
-    {"offer", "\1\13\17\10\11\2\15\12"},
+    {"offer", "\1\13\17\10\11\25\2\15\12"},
     {"commit", "\1\14\15"},
     {"abandon", "\1\14\15"},
     {"release", "\1\13"},
     {"fresh", "\1"},
-    {"rebuild", "\1\10\11\3\20"},
+    {"rebuild", "\1\10\11\3\20\25"},
     {"stats", "\1"},
     {"counters", "\1"},
     {"defrag", "\1\13\16"},
@@ -128,7 +128,7 @@ static const struct {
     {"snapshot_read", "\1\4\6\23"},
 };
 
-enum { LAST_REFUSAL = WENTUHORO_WRONG_BLOCK };
+enum { LAST_REFUSAL = WENTUHORO_KEY_TOO_LONG };
 
 static uint64_t answered[CALLS][LAST_REFUSAL + 1]; /* by call and refusal, 0 for a grant */
 static uint64_t judged;
@@ -139,7 +139,7 @@ static size_t ids, slots; /* as claimed to the call */
 static size_t true_ids, true_slots; /* that the slices are made for */
 static size_t wrong_slice; /* that gets a wrong length; MOST_SLICES for none */
 
-/* Files of more than 16 slots are cut with a margin; a snapshot of more than 20 rows has two blocks. */
+/* Files of more than 16 slots are cut with a margin; a snapshot of more than five rows has two blocks. */
 static void choose_capacities(enum call call, bool large) {
     bool cuts = call == TRUNCATION || call == CUT_DONE, snapshots = call == SNAPSHOT_LENGTH || call == SNAPSHOT_WRITE;
     true_ids = large ? WENTUHORO_MOST_IDS : snapshots && in_hundred(50) ? 15 + below(60) : 2 + below(5);
@@ -193,11 +193,20 @@ static void fill_tallies(struct slice *s) {
     }
 }
 
-/* Every byte of the ids' rows and of the first kept ones; the others' are all the same. */
+/* Every byte of the ids' rows and of the first kept ones; the others' are all the same. No call but a snapshot's reader looks at them. */
 static void fill_carried(struct slice *s) {
     size_t rows = (true_ids + 4) * WENTUHORO_CARRIED_WIDTH;
     memset(s->at, (int)below(256), s->length);
     for (size_t i = 0; i < s->length && i < rows; i++) s->at[i] = (uint8_t)word();
+}
+
+/* Rows as an offer or a rebuild brings them: a key of up to 64 bytes, seldom said to be longer, and any bytes behind it. */
+static void fill_brought(struct slice *s) {
+    for (size_t i = 0; i < s->length; i++) s->at[i] = (uint8_t)word();
+    for (size_t at = 8; at + 8 <= s->length; at += WENTUHORO_CARRIED_WIDTH) {
+        uint64_t length = in_hundred(94) ? ONE_OF(0, 0, 1, 2, 63, 64, below(65)) : ONE_OF(65, 66, 72, 128, 255, 256, 320, UINT64_C(1) << 32, UINT64_MAX);
+        memcpy(s->at + at, &length, 8);
+    }
 }
 
 /* Ids with a slot each, or without a location, but for one now and then: so that whole snapshots come too. */
@@ -325,7 +334,7 @@ static uint64_t store_call(enum call call) {
         for (size_t i = 0; i < a->length; i++) words(a)[i] = any_id();
         for (size_t i = 0; i < b->length; i++) b->at[i] = in_hundred(75);
         for (size_t i = 0; i < c->length; i++) words(c)[i] = ONE_OF(3, 3, 59, 60, UINT64_C(17179869172), UINT64_C(17179869173), UINT64_MAX);
-        for (size_t i = 0; i < d->length; i++) d->at[i] = (uint8_t)word();
+        fill_brought(d);
         keep_before();
         return wentuhoro_offer(ids, slots, B(im), P(lo), B(sm), P(ow), P(ba), P(ta), B(ca), P(a), (const bool *)b->at, b->length, P(c),
                                B(d), P(e));
@@ -348,7 +357,7 @@ static uint64_t store_call(enum call call) {
         c = lend_near(1, wentuhoro_carried_len(count), false);
         for (size_t i = 0; i < a->length; i++) words(a)[i] = any_id();
         for (size_t i = 0; i < b->length; i++) words(b)[i] = in_hundred(80) ? good_location() : any_location();
-        for (size_t i = 0; i < c->length; i++) c->at[i] = (uint8_t)word();
+        fill_brought(c);
         keep_before();
         return wentuhoro_rebuild(ids, slots, B(im), P(lo), B(sm), P(ow), P(ba), P(ta), B(ca), P(a), P(b), B(c));
     case STATS:
@@ -427,7 +436,10 @@ static struct slice *any_cookie(void) {
 
 /* ---- snapshot files, whole and damaged */
 
-enum { MOST_BLOCKS = 4, BLOCK = WENTUHORO_SNAPSHOT_BLOCK, ROWS = WENTUHORO_SNAPSHOT_BLOCK_ROWS, ROW = 24, CHECKED = BLOCK - 4 };
+enum { MOST_BLOCKS = 4, BLOCK = WENTUHORO_SNAPSHOT_BLOCK, CHECKED = BLOCK - 4, KEY_LENGTH = 24, KEY = 25 };
+
+/* By version: how many rows a block has, and a row's bytes. */
+static const size_t rows_of[3] = {0, 20, 5}, row_of[3] = {0, 24, 96};
 
 static void put_number(uint8_t *at, size_t width, uint64_t value) {
     for (size_t i = 0; i < width; i++) at[i] = (uint8_t)(value >> (8 * i));
@@ -435,32 +447,39 @@ static void put_number(uint8_t *at, size_t width, uint64_t value) {
 
 static void sign_block(uint8_t *block) { put_number(block + CHECKED, 4, wentuhoro_crc32(block, CHECKED) ^ 0xAF); }
 
-/* A file of some rows, with ids that ascend; how many bytes. */
-static size_t whole_file(uint8_t *file) {
-    size_t rows = (size_t)ONE_OF(0, 1, 2, 19, 20, 21, 39, 40, 41, below(61), below(61)), blocks = rows == 0 ? 1 : (rows + ROWS - 1) / ROWS;
+/* A file of some rows of a version, with ids that ascend; how many bytes. */
+static size_t whole_file(uint8_t *file, size_t version) {
+    size_t most = rows_of[version];
+    size_t rows = (size_t)ONE_OF(0, 1, 2, most - 1, most, most + 1, 2 * most - 1, 2 * most, 2 * most + 1, below(3 * most + 1), below(3 * most + 1));
+    size_t blocks = rows == 0 ? 1 : (rows + most - 1) / most;
     uint64_t id = ONE_OF(0, 1, word() >> 1);
     memset(file, 0, blocks * BLOCK);
     for (size_t row = 0; row < rows; row++, id += 1 + (in_hundred(50) ? 0 : word() >> ONE_OF(8, 32, 60))) {
-        uint8_t *at = file + row / ROWS * BLOCK + 8 + row % ROWS * ROW;
+        uint8_t *at = file + row / most * BLOCK + 8 + row % most * row_of[version];
         put_number(at, 8, id);
         put_number(at + 8, 8, word());
         put_number(at + 16, 8, in_hundred(90) ? good_location() : any_location());
+        if (version == 1) continue;
+        at[KEY_LENGTH] = (uint8_t)ONE_OF(0, 0, 1, 2, 63, 64, below(65));
+        for (size_t i = 0; i < at[KEY_LENGTH]; i++) at[KEY + i] = (uint8_t)(in_hundred(20) ? 0 : word());
     }
     for (size_t block = 0; block < blocks; block++) {
         uint8_t *at = file + block * BLOCK;
         put_number(at, 4, block);
-        put_number(at + 4, 2, block + 1 < blocks ? ROWS : rows - block * ROWS);
-        put_number(at + 6, 2, 1);
+        put_number(at + 4, 2, block + 1 < blocks ? most : rows - block * most);
+        put_number(at + 6, 2, version);
         sign_block(at);
     }
     return blocks * BLOCK;
 }
 
+static uint8_t kept_file[MOST_BLOCKS * BLOCK];
+
 /* One thing wrong, or what may be; how many bytes there are then. */
-static size_t damage(uint8_t *file, size_t bytes) {
-    size_t blocks = bytes / BLOCK;
-    uint8_t *block = file + below(blocks) * BLOCK, *other = file + below(blocks) * BLOCK, kept[BLOCK];
-    switch (below(10)) {
+static size_t damage(uint8_t *file, size_t bytes, size_t version) {
+    size_t blocks = bytes / BLOCK, most = rows_of[version], width = row_of[version];
+    uint8_t *block = file + below(blocks) * BLOCK, *other = file + below(blocks) * BLOCK, *row = block + 8 + below(most) * width, kept[BLOCK];
+    switch (below(version == 1 ? 11 : 14)) {
     case 0:
         block[below(BLOCK)] ^= (uint8_t)(1 << below(8));
         return bytes;
@@ -468,14 +487,14 @@ static size_t damage(uint8_t *file, size_t bytes) {
         put_number(block, 4, ONE_OF(0, 1, 2, 3, 256, UINT32_MAX));
         return bytes;
     case 2:
-        put_number(block + 4, 2, ONE_OF(0, 1, 19, 20, 21, 256, 65535));
+        put_number(block + 4, 2, ONE_OF(0, 1, most - 1, most, most + 1, 256, 65535));
         return bytes;
     case 3:
-        put_number(block + 6, 2, ONE_OF(0, 2, 256, 257, 65535));
+        put_number(block + 6, 2, ONE_OF(0, 1, 2, 3, 256, 257, 258, 65535));
         return bytes;
     case 4: /* a row's id becomes another row's, or one beside it */
-        memcpy(block + 8 + below(ROWS) * ROW, other + 8 + below(ROWS) * ROW, 8);
-        block[8 + below(ROWS) * ROW] += (uint8_t)ONE_OF(0, 0, 1, 255);
+        memcpy(row, other + 8 + below(most) * width, 8);
+        block[8 + below(most) * width] += (uint8_t)ONE_OF(0, 0, 1, 255);
         return bytes;
     case 5:
         block[ONE_OF(488, 507, 488 + below(20), 8 + below(480))] = (uint8_t)(1 + below(255));
@@ -492,11 +511,26 @@ static size_t damage(uint8_t *file, size_t bytes) {
         return bytes + BLOCK;
     case 8: /* a block begins with the id that the one before it ends with, or one beside that */
         if (block == file) return bytes;
-        memcpy(block + 8, block - BLOCK + 8 + (ROWS - 1) * ROW, 8);
+        memcpy(block + 8, block - BLOCK + 8 + (most - 1) * width, 8);
         block[8] += (uint8_t)ONE_OF(0, 0, 1, 255);
         return bytes;
-    default: /* a row taken out of the middle, and its place left empty */
-        memset(block + 8 + below(ROWS) * ROW, 0, ROW);
+    case 9: /* a row taken out of the middle, and its place left empty */
+        memset(row, 0, width);
+        return bytes;
+    case 10: /* a block of the other version, at its place and in its order as far as that goes */
+        whole_file(kept_file, 3 - version);
+        memcpy(kept, kept_file, BLOCK);
+        put_number(kept, 4, (uint64_t)(block - file) / BLOCK);
+        memcpy(block, kept, BLOCK);
+        return bytes;
+    case 11: /* a key of another length */
+        row[KEY_LENGTH] = (uint8_t)ONE_OF(0, 1, 63, 64, 65, 66, 71, 72, 128, 255, row[KEY_LENGTH] + 1, row[KEY_LENGTH] - 1);
+        return bytes;
+    case 12: /* behind the key */
+        row[KEY + row[KEY_LENGTH] % 64] = (uint8_t)(1 + below(255));
+        return bytes;
+    default: /* in the zeros at a row's end */
+        row[89 + below(7)] = (uint8_t)(1 + below(255));
         return bytes;
     }
 }
@@ -504,9 +538,9 @@ static size_t damage(uint8_t *file, size_t bytes) {
 /* Arbitrary bytes; or a file, as it is or damaged, its checks mended or not. */
 static struct slice *any_file(void) {
     static uint8_t file[MOST_BLOCKS * BLOCK];
-    size_t bytes = whole_file(file);
+    size_t version = in_hundred(35) ? 1 : 2, bytes = whole_file(file, version);
     unsigned damages = in_hundred(35) ? 0 : 1 + (unsigned)below(2);
-    while (damages-- > 0 && bytes > 0) bytes = damage(file, bytes);
+    while (damages-- > 0 && bytes > 0) bytes = damage(file, bytes, version);
     for (size_t block = 0; block < bytes / BLOCK; block++)
         if (in_hundred(92)) sign_block(file + block * BLOCK);
     if (in_hundred(4)) {
@@ -592,13 +626,13 @@ static uint64_t leaf_call(enum call call) {
         n = a->length / BLOCK;
         number(n > 0 && in_hundred(90) ? below(n) : ONE_OF(n, n + 1, UINT64_C(1) << 55, UINT64_C(1) << 56, UINT64_MAX));
         n = numbers[0] < n ? a->at[numbers[0] * BLOCK + 4] : 0;
-        number(in_hundred(90) ? ONE_OF(below(n + 1), n, n == 0 ? 0 : n - 1) : ONE_OF(n + 1, ROWS, UINT64_C(1) << 60, UINT64_MAX));
-        b = lend_near(8, 6, true);
+        number(in_hundred(90) ? ONE_OF(below(n + 1), n, n == 0 ? 0 : n - 1) : ONE_OF(n + 1, 5, 20, UINT64_C(1) << 60, UINT64_MAX));
+        b = lend_near(8, 8, true);
         keep_before();
         return wentuhoro_snapshot_step(B(a), numbers[0], numbers[1], P(b));
     case SNAPSHOT_READ:
         a = any_file();
-        n = wentuhoro_snapshot_most_rows(a->length);
+        n = wentuhoro_snapshot_most_rows(a->at, a->length);
         n = (size_t)ONE_OF(n, n, n, n + 1, n + below(30), n == 0 ? 0 : n - 1);
         fill_words(b = lend_near(8, n, true));
         fill_words(c = lend_near(8, n, true));

@@ -104,7 +104,7 @@ def store_call(case):
         return answer, [[answer]], store
     if name == "snapshot_write":
         answer = store.snapshot_write(len(own[0]))
-        return answer, None if refused(answer) else [file_of(answer)], store
+        return answer, None if refused(answer) else [snapshot.write_kept(answer)], store
     if name in ("stats", "counters"):
         answer = store.counters()
         granted, freed = zip(*answer)
@@ -126,15 +126,11 @@ def store_call(case):
     return getattr(store, name)(), [], store
 
 
-def file_of(rows):
-    return snapshot.write([snapshot.Row(row.id, int.from_bytes(row.carried, "little"), row.location) for row in rows])
-
-
 def snapshot_step(file, position):
     answer = snapshot.step(file, snapshot.Position(*position))
     if answer == snapshot.END:
-        return answer, [0] * 6
-    return answer, None if refused(answer) else [1, *answer[0], *answer[1]]
+        return answer, [0] * 8
+    return answer, None if refused(answer) else [1, *answer.row[:3], *answer.next, answer.key_at, len(answer.row.key)]
 
 
 def snapshot_read(file, ids, locations, carried):
@@ -142,7 +138,8 @@ def snapshot_read(file, ids, locations, carried):
     rows = snapshot.read(file, len(ids), len(locations), len(carried))
     if refused(rows):
         return rows, None
-    columns = [row.id for row in rows], [row.location for row in rows], model.carried_of([row.collection for row in rows])
+    brought = model.carried_of([model.Carried(row.collection, len(row.key), row.key) for row in rows])
+    columns = [row.id for row in rows], [row.location for row in rows], brought
     return rows, [file, *(list(column) + list(lent[len(column) :]) for column, lent in zip(columns, (ids, locations, carried))), [len(rows)]]
 
 
@@ -176,7 +173,7 @@ def leaf_call(case):
         answer = wrong_values(3) or model.unpack(*numbers)
         return answer, [[0, 0, 0] if answer is None else [1, *answer]]
     if name == "snapshot_step":
-        answer, values = (wrong_values(6), None) if wrong_values(6) else snapshot_step(slices[0], numbers)
+        answer, values = (wrong_values(8), None) if wrong_values(8) else snapshot_step(slices[0], numbers)
         return answer, [slices[0], values]
     if name == "snapshot_read":
         return (wrong_values(1), None) if wrong_values(1) else snapshot_read(*slices[:4])

@@ -9,6 +9,7 @@ use crate::judge::{Judge, Rust};
 use crate::mapper_store::MapperStore;
 use crate::our_heap::OurHeap;
 use crate::ours::Ours;
+use crate::rows::Carried;
 use crate::{answer, cuts, full, histories, leaf_lines, snapshots, tiny, Store};
 
 #[derive(Default)]
@@ -62,29 +63,40 @@ pub struct Both {
     pub ids: u64,
     pub slots: u64,
     pub history: Vec<String>,
+    /// Which rows of the next offer, batch or rebuild have a key that is too long.
+    long: Vec<usize>,
 }
 
 impl Both {
     pub fn mapper(ids: u64, slots: u64) -> Both {
         let (rust, ours) = (Box::new(MapperStore::new()), Box::new(Ours::new(ids as usize, slots as usize)));
-        Both { rust, ours, ids, slots, history: vec![Call::Fresh.line(ids, slots)] }
+        Both { rust, ours, ids, slots, history: vec![Call::Fresh.line(ids, slots)], long: vec![] }
     }
 
     pub fn heap(ids: u64, slots: u64) -> Both {
         let (rust, ours) = (Box::new(HeapStore::new()), Box::new(OurHeap::new(ids as usize, slots as usize, 80)));
-        Both { rust, ours, ids, slots, history: vec![Call::Fresh.line(ids, slots)] }
+        Both { rust, ours, ids, slots, history: vec![Call::Fresh.line(ids, slots)], long: vec![] }
+    }
+
+    /// What the rows of the next offer, batch or rebuild carry. The Rust's have none of it.
+    pub fn tell(&mut self, rows: &[Carried]) {
+        let told: Vec<String> = rows.iter().map(Carried::told).collect();
+        let line = format!("carried {} {}", rows.len(), told.join(" "));
+        answer(&mut *self.ours, &line);
+        self.history.push(line);
+        self.long = (0..rows.len()).filter(|row| rows[*row].is_too_long()).collect();
     }
 
     pub fn judge(&self) -> Judge<'_> {
-        Judge { rust: &*self.rust, ids: self.ids, slots: self.slots }
+        Judge { rust: &*self.rust, ids: self.ids, slots: self.slots, long: &self.long }
     }
 
-    /// The file of the Rust's rows, with the collections that they were offered with; or where the one that was written is another.
+    /// The file of the Rust's rows, with what they were offered with; or where the one that was written is another.
     fn snapshot(&mut self) -> String {
         let live = self.judge().live();
         let ours = self.ours.ours();
-        let collections = &ours.tables.collections;
-        let rows: Vec<snapshots::Row> = live.into_iter().map(|(id, location)| [id, collections[id as usize], location]).collect();
+        let row = |(id, location)| snapshots::Row { id, location, kept: ours.tables.rows[id as usize] };
+        let rows: Vec<snapshots::Row> = live.into_iter().map(row).collect();
         snapshots::expected(&rows, &ours.written)
     }
 
@@ -125,6 +137,7 @@ impl Both {
         };
         let agree = counts.compare(&self.history, &line, &library, &expected);
         self.history.push(line);
+        self.long.clear();
         agree
     }
 }

@@ -5,6 +5,7 @@ use crate::chance::Chance;
 use crate::object_location_mapper::probe::location;
 use crate::our_leaves::tail_bytes;
 use crate::progress::Progress;
+use crate::rows::Carried;
 use crate::tables::{Update, ALLOCATORS, SLABS};
 use wentuhoro::SLAB_SIZES;
 
@@ -69,7 +70,24 @@ impl History<'_> {
         if self.chance.in_hundred(1) {
             updates = updates.iter().cycle().take(257 * updates.len().min(1)).copied().collect();
         }
+        self.tell_keys(updates.len());
         updates
+    }
+
+    /// Keys of the next call's rows, now and then: of any length, seldom a longer one than there are.
+    fn tell_keys(&mut self, rows: usize) {
+        if !self.chance.in_hundred(10) {
+            return;
+        }
+        let is_one_too_long = self.chance.in_hundred(40);
+        let mut carried: Vec<Carried> = (0..rows)
+            .map(|_| Carried { key_length: self.chance.of(&[0, 1, 2, 31, 62, 63, 64]), ..Carried::some(self.chance.word(), true) })
+            .collect();
+        if is_one_too_long && rows > 0 {
+            let at = self.chance.among(0, rows as u64 - 1) as usize;
+            carried[at].key_length = self.chance.of(&[65, 66, 72, 128, 255, 256, 320, 1 << 32, 1 << 63, u64::MAX]);
+        }
+        self.both.tell(&carried);
     }
 
     fn batch(&mut self) -> bool {
@@ -148,6 +166,7 @@ impl History<'_> {
             rows = self.some_rows();
         }
         self.chance.shuffle(&mut rows);
+        self.tell_keys(rows.len());
         self.call(Call::Rebuild(rows))
     }
 

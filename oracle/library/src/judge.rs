@@ -64,6 +64,8 @@ pub struct Judge<'a> {
     pub rust: &'a dyn Rust,
     pub ids: u64,
     pub slots: u64,
+    /// Which rows of the call have a key that is too long.
+    pub long: &'a [usize],
 }
 
 type Refusal = Option<(u64, u64)>;
@@ -135,6 +137,9 @@ impl Judge<'_> {
             if !seen.insert(update.id) {
                 return Some((9, index));
             }
+            if update.store && self.long.contains(&(index as usize)) {
+                return Some((21, index));
+            }
             if update.store && update.length > LONGEST_OBJECT {
                 return Some((2, index));
             }
@@ -157,6 +162,7 @@ impl Judge<'_> {
                 (!ids.insert(*id), 9),
                 (slab == 0 || slab > SLABS as u64 || slot >= self.slots, 3),
                 (!locations.insert(*location), 16),
+                (self.long.contains(&row), 21),
             ];
             if let Some((number, _)) = first_of(&tests) {
                 return Some((number, row as u64));

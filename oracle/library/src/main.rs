@@ -7,8 +7,8 @@
 //!                                    both sides in this process, call by call
 //!
 //! A refusal is told as `refused NUMBER INDEX`. ORACLE_WRONG=CALL changes each of the library's answers to that call before it is
-//! compared; `canary`, `carried` and `refusal` change its memory instead, `location` the last row of a snapshot that it wrote and that was
-//! read back. The comparison then has to fail.
+//! compared; `canary`, `carried`, `key`, `gap` and `refusal` change its memory instead, `location` and `key_in_file` the last row of a snapshot
+//! that it wrote and that was read back. The comparison then has to fail.
 
 // The originals and the oracle's driver around them, as the oracle has them.
 #[allow(dead_code)]
@@ -45,6 +45,7 @@ mod our_heap;
 mod our_leaves;
 mod ours;
 mod progress;
+mod rows;
 mod snapshots;
 mod tables;
 mod tiny;

@@ -2,6 +2,7 @@
 use std::fmt::Write;
 use std::sync::OnceLock;
 
+use crate::rows::{kept_told, Carried};
 use crate::tables::{Refused, Tables, Update, ALLOCATORS, HINT, MOST_UPDATES, SLABS, USED, WAITING};
 use crate::words::Words;
 use crate::{snapshots, Store};
@@ -142,18 +143,20 @@ impl Ours {
             "batch" => told(tables.offer(&updates(words)), |placed| told(tables.commit(), |()| ok(placed))),
             "release" => told(tables.release(), done),
             "lookup" => told(tables.lookup(words.number()), |(location, _)| one(location)),
-            "found" => told(tables.lookup(words.number()), |(location, collection)| ok([location, collection])),
+            "found" => told(tables.lookup(words.number()), |(location, row)| format!("ok {location} {}", kept_told(&row))),
             "carried" => {
                 let count = words.number();
-                tables.told = Some((0..count).map(|_| words.number()).collect());
+                tables.told = Some((0..count).map(|_| Carried::read(words)).collect());
                 done(())
             }
             "snapshot_length" => told(tables.snapshot_length(), one),
             "snapshot_write" => told(tables.snapshot_write(words.number()), |file| one(snapshots::check_of_bodies(&file))),
             "snapshot" => told(tables.snapshot_length().and_then(|length| tables.snapshot_write(length)), |mut file| {
                 let is_read_back = snapshots::read_back(tables, &file);
-                if wrong() == "location" {
-                    snapshots::move_last_row(&mut file);
+                match wrong() {
+                    "location" => snapshots::change_last_row(&mut file, snapshots::LOCATION),
+                    "key_in_file" => snapshots::change_last_row(&mut file, snapshots::KEY_LENGTH),
+                    _ => {}
                 }
                 let told = is_read_back.map_or_else(|broken| broken, |()| snapshots::told(&file));
                 self.written = file;

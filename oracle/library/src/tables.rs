@@ -3,6 +3,7 @@
 //! After each call: every canary lives; where it refused, every lent byte is as it was; where it granted, what it is lent for reading only
 //! is; and rows carry what the last committed Store or the rebuild said. What is found broken is told in `broken`.
 use crate::guarded::{Canary, Guarded};
+use crate::rows::{kept_told, lent, Carried, Kept, CARRIED_WIDTH};
 use wentuhoro::raw;
 
 pub const SLABS: usize = 78;
@@ -10,7 +11,6 @@ pub const ALLOCATORS: usize = 79;
 pub const BATCH_WORDS: usize = 513;
 pub const TALLY_WORDS: usize = 473;
 pub const MOST_UPDATES: usize = 256;
-pub const CARRIED_WIDTH: usize = 8;
 pub const USED: usize = 158;
 pub const HINT: usize = 237;
 pub const WAITING: usize = 316;
@@ -30,10 +30,10 @@ pub struct Tables {
     pub batch: Guarded<u64>,
     pub tallies: Guarded<u64>,
     pub carried: Guarded<u8>,
-    /// The collections of the next offer or rebuild, where they were told; else they follow from the updates and rows.
-    pub told: Option<Vec<u64>>,
-    /// What `carried` has to hold, a collection for each row: the ids', then the kept updates'.
-    pub collections: Vec<u64>,
+    /// What the rows of the next offer or rebuild carry, where it was told; else it follows from the updates and rows.
+    pub told: Option<Vec<Carried>>,
+    /// What `carried` has to hold: the ids' rows, then the kept updates'.
+    pub rows: Vec<Kept>,
     /// Id, and whether it is a Store, of each update of the last granted offer.
     offered: Vec<(u64, bool)>,
     /// Whether the tables are copied before each call, to compare them after it. Large ones are copied where a refusal is expected.
@@ -76,20 +76,10 @@ macro_rules! written {
 }
 
 impl Update {
-    /// One that hardly another update has.
-    fn collection(&self) -> u64 {
-        mixed(self.id ^ self.seed << 16 ^ self.length << 24)
+    /// What hardly another update carries.
+    fn carried(&self) -> Carried {
+        Carried::some(self.id ^ self.seed << 16 ^ self.length << 24, self.store)
     }
-}
-
-fn mixed(number: u64) -> u64 {
-    let spread = (number ^ number >> 31).wrapping_mul(0x9E37_79B9_7F4A_7C15);
-    spread ^ spread >> 29
-}
-
-/// Collections as the library is lent them.
-pub fn packed(collections: &[u64]) -> Vec<u8> {
-    collections.iter().flat_map(|collection| collection.to_le_bytes()).collect()
 }
 
 fn granted<T>(status: u64, answer: T) -> Result<T, Refused> {
@@ -110,7 +100,7 @@ impl Tables {
             tallies: Guarded::unwritten(TALLY_WORDS),
             carried: Guarded::unwritten((ids + MOST_UPDATES) * CARRIED_WIDTH),
             told: None,
-            collections: vec![u64::from_le_bytes([u8::UNWRITTEN; CARRIED_WIDTH]); ids + MOST_UPDATES],
+            rows: vec![[u8::UNWRITTEN; CARRIED_WIDTH]; ids + MOST_UPDATES],
             offered: vec![],
             watched: ids.max(slots) <= 1_024,
             broken: None,
@@ -123,25 +113,25 @@ impl Tables {
             writes carried
         );
         if status == 0 {
-            self.collections.fill(0);
+            self.rows.fill([0; CARRIED_WIDTH]);
         }
         self.look_at_carried();
         granted(status, ())
     }
 
     /// A row of an object that lies there already carries what it did.
-    fn collections_of(&self, rows: &[(u64, u64)]) -> Vec<u64> {
-        let collection = |&(id, location): &(u64, u64)| match self.locations.values().get(id as usize) {
-            Some(known) if *known == location => self.collections[id as usize],
-            _ => mixed(id ^ location),
+    fn carried_of(&self, rows: &[(u64, u64)]) -> Vec<Carried> {
+        let carried = |&(id, location): &(u64, u64)| match self.locations.values().get(id as usize) {
+            Some(known) if *known == location => Carried::of_kept(&self.rows[id as usize]),
+            _ => Carried::some(id ^ location, true),
         };
-        rows.iter().map(collection).collect()
+        rows.iter().map(carried).collect()
     }
 
     pub fn rebuild(&mut self, rows: &[(u64, u64)]) -> Result<(), Refused> {
         let (ids, locations): (Vec<u64>, Vec<u64>) = rows.iter().copied().unzip();
-        let collections = self.told.take().unwrap_or_else(|| self.collections_of(rows));
-        let carried = packed(&collections);
+        let told = self.told.take().unwrap_or_else(|| self.carried_of(rows));
+        let carried = lent(&told);
         let (row_ids, row_locations, row_carried) = (Guarded::of(&ids), Guarded::of(&locations), Guarded::of(&carried));
         let status = lend!(
             self, wentuhoro_rebuild: writes id_marks, writes locations, writes slot_marks, writes owners, writes batch, writes tallies,
@@ -152,8 +142,8 @@ impl Tables {
         self.look_at_input(&row_locations, &locations);
         self.look_at_input(&row_carried, &carried);
         if status == 0 {
-            self.collections.fill(0);
-            ids.iter().zip(collections).for_each(|(id, collection)| self.collections[*id as usize] = collection);
+            self.rows.fill([0; CARRIED_WIDTH]);
+            ids.iter().zip(told).for_each(|(id, carried)| self.rows[*id as usize] = carried.kept());
         }
         self.look_at_carried();
         granted(status, ())
@@ -166,8 +156,8 @@ impl Tables {
         granted(status, id.values()[0])
     }
 
-    /// The location and the collection.
-    pub fn lookup(&mut self, id: u64) -> Result<(u64, u64), Refused> {
+    /// The location, and what the row carries.
+    pub fn lookup(&mut self, id: u64) -> Result<(u64, Kept), Refused> {
         let (mut location, mut row) = (Guarded::unwritten(1), Guarded::<u8>::unwritten(CARRIED_WIDTH));
         let status = lend!(
             self, wentuhoro_lookup: reads id_marks, reads locations, reads slot_marks, reads owners, reads tallies, reads carried;
@@ -175,19 +165,19 @@ impl Tables {
         );
         self.look_at_answer(&location, status);
         self.look_at_answer(&row, status);
-        let collection = u64::from_le_bytes(row.values().try_into().unwrap());
-        if status == 0 && self.collections[id as usize] != collection {
-            self.broken = Some(format!("{id} is of collection {}, not {collection}", self.collections[id as usize]));
+        let row: Kept = row.values().try_into().unwrap();
+        if status == 0 && self.rows[id as usize] != row {
+            self.broken = Some(format!("{id} carries {}, not {}", kept_told(&self.rows[id as usize]), kept_told(&row)));
         }
-        granted(status, (location.values()[0], collection))
+        granted(status, (location.values()[0], row))
     }
 
     pub fn offer(&mut self, updates: &[Update]) -> Result<Vec<u64>, Refused> {
         let ids: Vec<u64> = updates.iter().map(|update| update.id).collect();
         let stores: Vec<bool> = updates.iter().map(|update| update.store).collect();
         let lengths: Vec<u64> = updates.iter().map(|update| update.length).collect();
-        let collections = self.told.take().unwrap_or_else(|| updates.iter().map(Update::collection).collect());
-        let carried = packed(&collections);
+        let told = self.told.take().unwrap_or_else(|| updates.iter().map(Update::carried).collect());
+        let carried = lent(&told);
         let (lent_ids, lent_stores, lent_lengths) = (Guarded::of(&ids), Guarded::of(&stores), Guarded::of(&lengths));
         let (lent_carried, mut placed) = (Guarded::of(&carried), Guarded::unwritten(updates.len()));
         let status = lend!(
@@ -202,7 +192,9 @@ impl Tables {
         self.look_at_input(&lent_carried, &carried);
         self.look_at_answer(&placed, status);
         if status == 0 {
-            self.collections[self.ids..self.ids + collections.len()].copy_from_slice(&collections);
+            for (at, (update, carried)) in updates.iter().zip(told).enumerate() {
+                self.rows[self.ids + at] = if update.store { carried.kept() } else { [0; CARRIED_WIDTH] };
+            }
             self.offered = updates.iter().map(|update| (update.id, update.store)).collect();
         }
         self.look_at_carried();
@@ -216,7 +208,7 @@ impl Tables {
         );
         if status == 0 {
             for (at, (id, store)) in self.offered.iter().enumerate() {
-                self.collections[*id as usize] = if *store { self.collections[self.ids + at] } else { 0 };
+                self.rows[*id as usize] = if *store { self.rows[self.ids + at] } else { [0; CARRIED_WIDTH] };
             }
         }
         self.look_at_carried();
@@ -333,7 +325,7 @@ impl Tables {
     }
 
     fn look_at_carried(&mut self) {
-        if self.watched && self.carried.values() != packed(&self.collections) {
+        if self.watched && self.carried.values() != self.rows.as_flattened() {
             self.broken = Some("rows carry something else".into());
         }
     }
@@ -354,6 +346,8 @@ impl Tables {
         match crate::ours::wrong() {
             "canary" => self.locations.write_past_the_end(0),
             "carried" if status == 0 => self.carried.values_mut()[CARRIED_WIDTH] ^= 1,
+            "key" if status == 0 => self.carried.values_mut()[CARRIED_WIDTH + 9] ^= 1,
+            "gap" if status == 0 => self.carried.values_mut()[2 * CARRIED_WIDTH - 1] ^= 1,
             "refusal" if status != 0 => self.tallies.values_mut()[HIGH] ^= 1,
             _ => {}
         }
