@@ -11,8 +11,8 @@
  * where a refusal is given per update, the row's where per row, the slab's for an offer's 10, the block's where a snapshot is read, and 0
  * elsewhere.
  *
- * No call allocates, locks, or keeps anything of its own between calls: a store is its tables. The stack that a call takes: some 66 KiB in
- * rebuild, 9 KiB in offer, 4 KiB in what computes a check, less elsewhere.
+ * No call allocates, locks, or keeps anything of its own between calls: a store is its tables. The stack that a call takes: some 65 KiB in
+ * rebuild, 11 KiB in offer, 4 KiB in what computes a check, less than 1 KiB elsewhere.
  *
  * A program that holds its tables in a struct wentuhoro_store uses the wentuhoro_store_ functions at the end, which pass the fourteen
  * pointers and lengths.
@@ -23,6 +23,7 @@
 #include <stdbool.h>
 #include <stddef.h>
 #include <stdint.h>
+#include <string.h>
 
 #ifdef __cplusplus
 extern "C" {
@@ -36,7 +37,7 @@ enum wentuhoro_refusal {
     WENTUHORO_OUT_OF_RANGE = 3,        /* a slab, slot or packed location out of range */
     WENTUHORO_CHECK_DIFFERS = 4,       /* the check differs */
     WENTUHORO_TOO_LONG = 5,            /* a stored length, or an object to be written, longer than its slot takes */
-    WENTUHORO_UNKNOWN_VERSION = 6,     /* a version of a cookie or of a snapshot's block that is not 1 */
+    WENTUHORO_UNKNOWN_VERSION = 6,     /* a version of a cookie that is not 1, or of a snapshot's block that is neither 1 nor 2 */
     WENTUHORO_FANOUT_DIFFERS = 7,      /* the fanout differs */
     WENTUHORO_NO_SUCH_ID = 8,          /* id 0, at or past capacity, not held, or (lookup) without location */
     WENTUHORO_REPEATED_ID = 9,         /* the id of an earlier update of the batch, or of an earlier rebuild row */
@@ -49,7 +50,8 @@ enum wentuhoro_refusal {
     WENTUHORO_REPEATED_LOCATION = 16,  /* a rebuild row has an earlier row's location */
     WENTUHORO_NOTHING_TO_CUT = 17,     /* a cut reported where the test says keep */
     WENTUHORO_GAP_NOT_ZERO = 18,       /* bytes between object and frame are not zero */
-    WENTUHORO_WRONG_BLOCK = 19         /* a snapshot's block has a wrong number, count, padding or row order */
+    WENTUHORO_WRONG_BLOCK = 19,        /* a snapshot's block has a wrong number, count, padding, key or row order, or another version than before */
+    WENTUHORO_KEY_TOO_LONG = 21        /* a key of over 64 bytes */
 };
 
 /* 0 for a status that grants, else one of the numbers above. */
@@ -64,6 +66,7 @@ static inline uint64_t wentuhoro_refusal_index(uint64_t status) { return status 
 #define WENTUHORO_MOST_IDS 65536   /* id capacity: 2 to this; ids run from 1 to capacity - 1 */
 #define WENTUHORO_MOST_SLOTS 65536 /* slot capacity, the same in every slab: 1 to this */
 #define WENTUHORO_MOST_UPDATES 256
+#define WENTUHORO_MOST_KEY 64 /* bytes of a key: 0 to this */
 #define WENTUHORO_COOKIE_BYTES 64
 
 /* The seven tables: id_marks and locations have one entry an id, slot_marks and owners one a slot, slab after slab; carried has one an id,
@@ -71,27 +74,68 @@ static inline uint64_t wentuhoro_refusal_index(uint64_t status) { return status 
 #define WENTUHORO_ALLOCATORS 79 /* the ids', then each slab's */
 #define WENTUHORO_BATCH_WORDS 513
 #define WENTUHORO_TALLY_WORDS 473
-#define WENTUHORO_CARRIED_WIDTH 8 /* bytes of an entry of carried */
+#define WENTUHORO_CARRIED_WIDTH 80 /* bytes of an entry of carried, and of a row in the list of an offer, a rebuild or a read snapshot */
 #define WENTUHORO_CARRIED_ROWS(ids) ((ids) + WENTUHORO_MOST_UPDATES)
 
 static inline size_t wentuhoro_all_slots(size_t slots) { return WENTUHORO_SLABS * slots; }
 
-/* What an object's row carries beside its location: the store keeps it and never looks at it. This is how an entry is laid out, so a list of
- * these is lent as it stands. */
+/* What an object's row carries beside its location: its collection, and its low key of 0 to 64 bytes. The store keeps them and placement never
+ * looks at them. A row has two forms of the same size, and both structs are how their bytes are laid out, so a list of them is lent as it stands.
+ *
+ * As an offer and a rebuild are brought it, and as wentuhoro_snapshot_read hands it out: of key the first key_length bytes are the key, and the
+ * others are not looked at. A key_length over 64 is refused with 21. wentuhoro_carried_of makes one. */
 struct wentuhoro_carried {
     uint64_t collection;
+    uint64_t key_length;
+    uint8_t key[WENTUHORO_MOST_KEY];
+};
+
+/* As the table carried keeps it, and as a lookup answers it: what follows the key is zero. wentuhoro_kept_key shows its key. */
+struct wentuhoro_kept {
+    uint64_t collection;
+    uint8_t key_length;
+    uint8_t key[WENTUHORO_MOST_KEY];
+    uint8_t zeros[7];
 };
 
 typedef char wentuhoro_carried_is_laid_out[sizeof(struct wentuhoro_carried) == WENTUHORO_CARRIED_WIDTH ? 1 : -1];
+typedef char wentuhoro_kept_is_laid_out[sizeof(struct wentuhoro_kept) == WENTUHORO_CARRIED_WIDTH ? 1 : -1];
 
 #if defined(__BYTE_ORDER__) && __BYTE_ORDER__ != __ORDER_LITTLE_ENDIAN__
-#error "entries of carried are little-endian, and so are the machines that libexports.a is made for"
+#error "rows are little-endian, and so are the machines that libexports.a is made for"
 #endif
 
-/* So many rows as the bytes that a call is lent, and how many these are. */
+/* A row to be brought, its key copied: of a key of over 64 bytes the first 64, and its true length, so that the library refuses it with 21. The
+ * pointer may be NULL where the length is 0. */
+static inline struct wentuhoro_carried wentuhoro_carried_of(uint64_t collection, const uint8_t *key, size_t key_length) {
+    struct wentuhoro_carried row;
+    memset(&row, 0, sizeof row);
+    row.collection = collection;
+    row.key_length = key_length;
+    if (key_length > 0) memcpy(row.key, key, key_length < WENTUHORO_MOST_KEY ? key_length : WENTUHORO_MOST_KEY);
+    return row;
+}
+
+/* The key of a row that is kept, and how long it is: the row's own bytes, which are good as long as the row is. Never more than 64, whatever the
+ * row holds. */
+static inline const uint8_t *wentuhoro_kept_key(const struct wentuhoro_kept *row, size_t *key_length) {
+    *key_length = row->key_length < WENTUHORO_MOST_KEY ? row->key_length : WENTUHORO_MOST_KEY;
+    return row->key;
+}
+
+/* A row that is kept as it can be brought again. */
+static inline struct wentuhoro_carried wentuhoro_carried_from_kept(const struct wentuhoro_kept *row) {
+    return wentuhoro_carried_of(row->collection, row->key, row->key_length);
+}
+
+/* So many rows as the bytes that a call is lent, and how many these are, in either form. */
 static inline const uint8_t *wentuhoro_carried_bytes(const struct wentuhoro_carried *rows) { return (const uint8_t *)rows; }
 
 static inline uint8_t *wentuhoro_carried_bytes_mut(struct wentuhoro_carried *rows) { return (uint8_t *)rows; }
+
+static inline const uint8_t *wentuhoro_kept_bytes(const struct wentuhoro_kept *rows) { return (const uint8_t *)rows; }
+
+static inline uint8_t *wentuhoro_kept_bytes_mut(struct wentuhoro_kept *rows) { return (uint8_t *)rows; }
 
 static inline size_t wentuhoro_carried_len(size_t rows) { return WENTUHORO_CARRIED_WIDTH * rows; }
 
@@ -152,7 +196,7 @@ uint64_t wentuhoro_fresh(size_t ids, size_t slots, uint8_t *id_marks, size_t id_
                          size_t batch_len, uint64_t *tallies, size_t tallies_len, uint8_t *carried, size_t carried_len);
 
 /* A store that holds the rows' ids and slots, with what they carry, and nothing else, rows in any order; writes every word of the seven
- * tables. Refuses: 1, then for each row 8 (range only), 9, 3, 16. */
+ * tables. row_carried has a struct wentuhoro_carried for each row. Refuses: 1, then for each row 8 (range only), 9, 3, 16, 21. */
 uint64_t wentuhoro_rebuild(size_t ids, size_t slots, uint8_t *id_marks, size_t id_marks_len, uint64_t *locations, size_t locations_len,
                            uint8_t *slot_marks, size_t slot_marks_len, uint64_t *owners, size_t owners_len, uint64_t *batch,
                            size_t batch_len, uint64_t *tallies, size_t tallies_len, uint8_t *carried, size_t carried_len,
@@ -163,16 +207,18 @@ uint64_t wentuhoro_rebuild(size_t ids, size_t slots, uint8_t *id_marks, size_t i
 uint64_t wentuhoro_new_id(size_t ids, size_t slots, uint8_t *id_marks, size_t id_marks_len, const uint64_t *batch, size_t batch_len,
                           uint64_t *tallies, size_t tallies_len, uint64_t *id, size_t id_len);
 
-/* One value: the packed location of an object; and what its row carries, in a slice of one entry. Refuses: 1, 8, 13. */
+/* One value: the packed location of an object; and what its row carries, a struct wentuhoro_kept, in a slice of its 80 bytes. It is entry id of
+ * carried, so a caller who would not copy it looks there once the lookup is granted. Refuses: 1, 8, 13. */
 uint64_t wentuhoro_lookup(size_t ids, size_t slots, const uint8_t *id_marks, size_t id_marks_len, const uint64_t *locations,
                           size_t locations_len, const uint8_t *slot_marks, size_t slot_marks_len, const uint64_t *owners,
                           size_t owners_len, const uint64_t *tallies, size_t tallies_len, const uint8_t *carried, size_t carried_len,
                           uint64_t id, uint64_t *location, size_t location_len, uint8_t *row, size_t row_len);
 
 /* Takes the smallest free slot for each Store of a batch, in list order, and keeps the batch. Update i stores an object of lengths[i]
- * bytes as update_ids[i] where stores[i], whose row carries entry i of update_carried, else it frees that id. All five lists have one row an
- * update; placed gets the packed locations, 0 for a Free. Writes slot_marks, batch, tallies, carried and placed.
- * Refuses: 1, 11, 15, then for each update 8, 9, 2, 13, then 10 with the lowest slab that has too few free slots. */
+ * bytes as update_ids[i] where stores[i], whose row carries entry i of update_carried, a struct wentuhoro_carried, else it frees that id, and
+ * that entry is not looked at. All five lists have one row an update; placed gets the packed locations, 0 for a Free. Writes slot_marks,
+ * batch, tallies, carried and placed.
+ * Refuses: 1, 11, 15, then for each update 8, 9, 21, 2, 13, then 10 with the lowest slab that has too few free slots. */
 uint64_t wentuhoro_offer(size_t ids, size_t slots, const uint8_t *id_marks, size_t id_marks_len, const uint64_t *locations,
                          size_t locations_len, uint8_t *slot_marks, size_t slot_marks_len, const uint64_t *owners, size_t owners_len,
                          uint64_t *batch, size_t batch_len, uint64_t *tallies, size_t tallies_len, uint8_t *carried, size_t carried_len,
@@ -225,19 +271,27 @@ uint64_t wentuhoro_cut_done(size_t ids, size_t slots, const uint8_t *slot_marks,
 /* ---- Snapshots: the live rows of a store as bytes, which another machine reads and rebuilds from
  *
  * A file is blocks of 512 bytes, each with its own check. A block, little-endian: its number from 0 on (4 bytes), how many rows it has
- * (2), version 1 (2), 20 rows of id, collection and location (8 each), zeros up to byte 508, and as in the cookie the check of those 508
- * bytes (4). Rows ascend by id. Only the last block may have fewer than 20, zeros in place of the others, and none where it is the only
- * one. A file cut at a block's end is the snapshot of fewer rows, and no call can tell: keep its length beside it. */
+ * (2), version 2 (2), five rows of id, collection and location (8 each), key length (1), the key and zeros after it (64), and zeros (7); zeros
+ * up to byte 508, and as in the cookie the check of those 508 bytes (4). Rows ascend by id. Only the last block may have fewer than five, zeros
+ * in place of the others, and none where it is the only one. A file cut at a block's end is the snapshot of fewer rows, and no call can tell:
+ * keep its length beside it.
+ *
+ * Files of version 1 are read, too: their blocks have 20 rows of id, collection and location, and what is read has empty keys. What is
+ * written is of version 2, which a library of before refuses with 6. A file mixes no versions: the first block of the other is refused with
+ * 19, one of an unknown version with 6. */
 
 #define WENTUHORO_SNAPSHOT_BLOCK 512
-#define WENTUHORO_SNAPSHOT_BLOCK_ROWS 20
+#define WENTUHORO_SNAPSHOT_BLOCK_ROWS 5      /* of version 2 */
+#define WENTUHORO_SNAPSHOT_OLD_BLOCK_ROWS 20 /* of version 1 */
 
-/* The rows that the lists lent to wentuhoro_snapshot_read have to have for a file of so many bytes, at least. */
-static inline size_t wentuhoro_snapshot_most_rows(size_t file_len) {
-    return file_len / WENTUHORO_SNAPSHOT_BLOCK * WENTUHORO_SNAPSHOT_BLOCK_ROWS;
+/* The rows that the lists lent to wentuhoro_snapshot_read have to have for this file, at least: 5 a block where its first block says version 2,
+ * else 20. */
+static inline size_t wentuhoro_snapshot_most_rows(const uint8_t *file, size_t file_len) {
+    bool is_version_2 = file_len >= WENTUHORO_SNAPSHOT_BLOCK && file[6] == 2 && file[7] == 0;
+    return file_len / WENTUHORO_SNAPSHOT_BLOCK * (is_version_2 ? WENTUHORO_SNAPSHOT_BLOCK_ROWS : WENTUHORO_SNAPSHOT_OLD_BLOCK_ROWS);
 }
 
-/* One value: the bytes that a snapshot of the store takes, 512 for each 20 objects or part of them, and never less than 512.
+/* One value: the bytes that a snapshot of the store takes, 512 for each five objects or part of them, and never less than 512.
  * Refuses: 1, 11. */
 uint64_t wentuhoro_snapshot_length(size_t ids, size_t slots, const uint8_t *id_marks, size_t id_marks_len, const uint64_t *locations,
                                    size_t locations_len, const uint64_t *batch, size_t batch_len, const uint64_t *tallies,
@@ -250,14 +304,16 @@ uint64_t wentuhoro_snapshot_write(size_t ids, size_t slots, const uint8_t *id_ma
                                   size_t owners_len, const uint64_t *batch, size_t batch_len, const uint64_t *tallies,
                                   size_t tallies_len, const uint8_t *carried, size_t carried_len, uint8_t *file, size_t file_len);
 
-/* The row at a position: a block, from 0 on, and a row in it. Six values: 1, id, collection, location, and the next position's block and
- * row; or six zeros for the end. The first position is 0, 0; one that no call has given is judged like any other. Each call judges the
- * whole block. Refuses, with the block: 1 (no whole number of blocks, or a position outside the file), 4, 6, 19, then 1 for a row that the
- * block has not. */
+/* The row at a position: a block, from 0 on, and a row in it. Eight values: 1, id, collection, location, the next position's block and row,
+ * at which byte of the file the key starts, and how long it is; or eight zeros for the end. The first position is 0, 0; one that no call has
+ * given is judged like any other. Each call judges the whole block. Refuses, with the block: 1 (no whole number of blocks, or a position
+ * outside the file), 4, 6, 19, then 1 for a row that the block has not. */
 uint64_t wentuhoro_snapshot_step(const uint8_t *file, size_t file_len, size_t block, size_t row, uint64_t *values, size_t values_len);
 
-/* The whole file, each block judged once: rows go into the first rows of three lists, which all have as many, 20 a block or more. One value:
- * how many rows. Ids and locations are as the file has them; a rebuild judges them. Refuses: 1, then for each block 4, 6, 19. */
+/* The whole file, each block judged once: rows go into the first rows of three lists, which all have as many, wentuhoro_snapshot_most_rows or
+ * more; those of row_carried are struct wentuhoro_carried, as a rebuild takes them. One value: how many rows. Ids and locations are as the file
+ * has them; a rebuild judges them. Refuses: 1, where the version that the first block names says how much room is asked for, then for each block
+ * 4, 6, 19. */
 uint64_t wentuhoro_snapshot_read(const uint8_t *file, size_t file_len, uint64_t *row_ids, size_t row_ids_len, uint64_t *row_locations,
                                  size_t row_locations_len, uint8_t *row_carried, size_t row_carried_len, uint64_t *rows,
                                  size_t rows_len);
@@ -278,22 +334,26 @@ struct wentuhoro_snapshot_position {
 struct wentuhoro_snapshot_row {
     uint64_t id;
     uint64_t location;
-    struct wentuhoro_carried carried;
+    uint64_t collection;
+    const uint8_t *key; /* in the file */
+    size_t key_length;
 };
 
 /* wentuhoro_snapshot_step from a position, which moves on. At the end, and on a refusal, found is false, and row and position are as they
  * were. */
 static inline uint64_t wentuhoro_snapshot_next(const uint8_t *file, size_t file_len, struct wentuhoro_snapshot_position *position,
                                                struct wentuhoro_snapshot_row *row, bool *found) {
-    uint64_t values[6];
-    uint64_t status = wentuhoro_snapshot_step(file, file_len, position->block, position->row, values, 6);
+    uint64_t values[8];
+    uint64_t status = wentuhoro_snapshot_step(file, file_len, position->block, position->row, values, 8);
     *found = status == 0 && values[0] == 1;
     if (*found) {
         row->id = values[1];
-        row->carried.collection = values[2];
+        row->collection = values[2];
         row->location = values[3];
         position->block = (size_t)values[4];
         position->row = (size_t)values[5];
+        row->key = file + (size_t)values[6];
+        row->key_length = (size_t)values[7];
     }
     return status;
 }
@@ -311,7 +371,7 @@ struct wentuhoro_store {
     uint64_t *owners;
     uint64_t *batch;
     uint64_t *tallies;
-    struct wentuhoro_carried *carried;
+    struct wentuhoro_kept *carried;
 };
 
 static inline size_t wentuhoro_store_carried_len(const struct wentuhoro_store *s) {
@@ -323,14 +383,14 @@ static inline size_t wentuhoro_store_carried_len(const struct wentuhoro_store *s
 static inline uint64_t wentuhoro_store_fresh(struct wentuhoro_store *s) {
     return wentuhoro_fresh(s->ids, s->slots, s->id_marks, s->ids, s->locations, s->ids, s->slot_marks, wentuhoro_all_slots(s->slots),
                            s->owners, wentuhoro_all_slots(s->slots), s->batch, WENTUHORO_BATCH_WORDS, s->tallies, WENTUHORO_TALLY_WORDS,
-                           wentuhoro_carried_bytes_mut(s->carried), wentuhoro_store_carried_len(s));
+                           wentuhoro_kept_bytes_mut(s->carried), wentuhoro_store_carried_len(s));
 }
 
 static inline uint64_t wentuhoro_store_rebuild(struct wentuhoro_store *s, size_t rows, const uint64_t *row_ids,
                                                const uint64_t *row_locations, const struct wentuhoro_carried *row_carried) {
     return wentuhoro_rebuild(s->ids, s->slots, s->id_marks, s->ids, s->locations, s->ids, s->slot_marks, wentuhoro_all_slots(s->slots),
                              s->owners, wentuhoro_all_slots(s->slots), s->batch, WENTUHORO_BATCH_WORDS, s->tallies,
-                             WENTUHORO_TALLY_WORDS, wentuhoro_carried_bytes_mut(s->carried), wentuhoro_store_carried_len(s), row_ids, rows,
+                             WENTUHORO_TALLY_WORDS, wentuhoro_kept_bytes_mut(s->carried), wentuhoro_store_carried_len(s), row_ids, rows,
                              row_locations, rows, wentuhoro_carried_bytes(row_carried), wentuhoro_carried_len(rows));
 }
 
@@ -340,25 +400,25 @@ static inline uint64_t wentuhoro_store_new_id(struct wentuhoro_store *s, uint64_
 }
 
 static inline uint64_t wentuhoro_store_lookup(const struct wentuhoro_store *s, uint64_t id, uint64_t *location,
-                                              struct wentuhoro_carried *carried) {
+                                              struct wentuhoro_kept *carried) {
     return wentuhoro_lookup(s->ids, s->slots, s->id_marks, s->ids, s->locations, s->ids, s->slot_marks, wentuhoro_all_slots(s->slots),
                             s->owners, wentuhoro_all_slots(s->slots), s->tallies, WENTUHORO_TALLY_WORDS,
-                            wentuhoro_carried_bytes(s->carried), wentuhoro_store_carried_len(s), id, location, 1,
-                            wentuhoro_carried_bytes_mut(carried), wentuhoro_carried_len(1));
+                            wentuhoro_kept_bytes(s->carried), wentuhoro_store_carried_len(s), id, location, 1,
+                            wentuhoro_kept_bytes_mut(carried), wentuhoro_carried_len(1));
 }
 
 static inline uint64_t wentuhoro_store_offer(struct wentuhoro_store *s, size_t updates, const uint64_t *update_ids, const bool *stores,
                                              const uint64_t *lengths, const struct wentuhoro_carried *update_carried, uint64_t *placed) {
     return wentuhoro_offer(s->ids, s->slots, s->id_marks, s->ids, s->locations, s->ids, s->slot_marks, wentuhoro_all_slots(s->slots),
                            s->owners, wentuhoro_all_slots(s->slots), s->batch, WENTUHORO_BATCH_WORDS, s->tallies, WENTUHORO_TALLY_WORDS,
-                           wentuhoro_carried_bytes_mut(s->carried), wentuhoro_store_carried_len(s), update_ids, updates, stores, updates,
+                           wentuhoro_kept_bytes_mut(s->carried), wentuhoro_store_carried_len(s), update_ids, updates, stores, updates,
                            lengths, updates, wentuhoro_carried_bytes(update_carried), wentuhoro_carried_len(updates), placed, updates);
 }
 
 static inline uint64_t wentuhoro_store_commit(struct wentuhoro_store *s) {
     return wentuhoro_commit(s->ids, s->slots, s->id_marks, s->ids, s->locations, s->ids, s->slot_marks, wentuhoro_all_slots(s->slots),
                             s->owners, wentuhoro_all_slots(s->slots), s->batch, WENTUHORO_BATCH_WORDS, s->tallies, WENTUHORO_TALLY_WORDS,
-                            wentuhoro_carried_bytes_mut(s->carried), wentuhoro_store_carried_len(s));
+                            wentuhoro_kept_bytes_mut(s->carried), wentuhoro_store_carried_len(s));
 }
 
 static inline uint64_t wentuhoro_store_abandon(struct wentuhoro_store *s) {
@@ -407,7 +467,7 @@ static inline uint64_t wentuhoro_store_snapshot_length(const struct wentuhoro_st
 static inline uint64_t wentuhoro_store_snapshot_write(const struct wentuhoro_store *s, uint8_t *file, size_t file_len) {
     return wentuhoro_snapshot_write(s->ids, s->slots, s->id_marks, s->ids, s->locations, s->ids, s->slot_marks,
                                     wentuhoro_all_slots(s->slots), s->owners, wentuhoro_all_slots(s->slots), s->batch,
-                                    WENTUHORO_BATCH_WORDS, s->tallies, WENTUHORO_TALLY_WORDS, wentuhoro_carried_bytes(s->carried),
+                                    WENTUHORO_BATCH_WORDS, s->tallies, WENTUHORO_TALLY_WORDS, wentuhoro_kept_bytes(s->carried),
                                     wentuhoro_store_carried_len(s), file, file_len);
 }
 

@@ -1,9 +1,10 @@
-/* A night at the kiosk: store eight objects of one collection, look one up, free five, release, list what to move.
+/* A night at the kiosk: store eight objects of one collection, each with a key, look one up, free five, release, list what to move.
  *
- * It prints document 01's whole run. bindings/c/run builds it and compares. */
+ * It prints what the lookup found, and document 01's whole run. bindings/c/run builds it and compares. */
 #include <inttypes.h>
 #include <stdio.h>
 #include <stdlib.h>
+#include <string.h>
 
 #include "wentuhoro.h"
 
@@ -36,10 +37,20 @@ static void write_and_read(void) {
     expected(wentuhoro_frame_read(slot, sizeof slot, &length, 1) == WENTUHORO_GAP_NOT_ZERO, "rubbish behind the object is seen, though it is signed");
 }
 
+/* A key of 65 bytes is refused, and nothing is stored. */
+static void too_long(struct wentuhoro_store *store, uint64_t id) {
+    const bool stores = true;
+    const uint64_t length = 3;
+    uint8_t key[WENTUHORO_MOST_KEY + 1] = {0};
+    uint64_t placed;
+    struct wentuhoro_carried carried = wentuhoro_carried_of(7, key, sizeof key);
+    expected(wentuhoro_store_offer(store, 1, &id, &stores, &length, &carried, &placed) == WENTUHORO_KEY_TOO_LONG, "65 bytes are no key");
+}
+
 int main(void) {
     static uint8_t id_marks[IDS], slot_marks[WENTUHORO_SLABS * SLOTS];
     static uint64_t locations[IDS], owners[WENTUHORO_SLABS * SLOTS], batch[WENTUHORO_BATCH_WORDS], tallies[WENTUHORO_TALLY_WORDS];
-    static struct wentuhoro_carried rows[WENTUHORO_CARRIED_ROWS(IDS)];
+    static struct wentuhoro_kept rows[WENTUHORO_CARRIED_ROWS(IDS)];
     struct wentuhoro_store store = {IDS, SLOTS, id_marks, locations, slot_marks, owners, batch, tallies, rows};
     write_and_read();
 
@@ -51,17 +62,22 @@ int main(void) {
         granted("new_id", wentuhoro_store_new_id(&store, &ids[i]));
         stores[i] = true;
         lengths[i] = 3;
-        carried[i].collection = 7;
+        const uint8_t key[] = {'f', 'a', 'c', 'e', '/', (uint8_t)('1' + i)};
+        carried[i] = wentuhoro_carried_of(7, key, sizeof key);
     }
+    too_long(&store, ids[0]);
     granted("offer", wentuhoro_store_offer(&store, OBJECTS, ids, stores, lengths, carried, placed));
     /* Here a program writes its slots. Where a write fails it calls wentuhoro_store_abandon, and the batch has left no trace. */
     granted("commit", wentuhoro_store_commit(&store));
 
     uint64_t location;
-    struct wentuhoro_carried found;
+    struct wentuhoro_kept found;
+    size_t key_length;
     granted("lookup", wentuhoro_store_lookup(&store, 6, &location, &found));
     expected(location == placed[5], "object 6 lies where the offer placed it");
-    expected(found.collection == 7, "object 6 is of collection 7");
+    const uint8_t *key = wentuhoro_kept_key(&found, &key_length);
+    printf("object 6 is of collection %" PRIu64 " and has the key %.*s\n", found.collection, (int)key_length, (const char *)key);
+    expected(memcmp(&found, &rows[6], sizeof found) == 0, "what is found is the table's own row");
 
     const uint64_t freed[] = {1, 2, 3, 5, 7};
     const bool none[5] = {false, false, false, false, false};

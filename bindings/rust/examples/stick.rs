@@ -25,11 +25,18 @@ struct Kiosk {
     store: Store,
 }
 
-/// An object to be stored: its collection, and its bytes.
+/// An object to be stored: its collection, its low key in the page index, and its bytes.
 struct Object {
     id: u64,
     collection: u64,
+    key: String,
     bytes: Vec<u8>,
+}
+
+impl Object {
+    fn carried(&self) -> Carried<'_> {
+        Carried::of_collection(self.collection).with_key(self.key.as_bytes())
+    }
 }
 
 impl Kiosk {
@@ -58,10 +65,9 @@ impl Kiosk {
     fn refill(&mut self, objects: &[Object]) -> Answer<Vec<SlabAddress>> {
         let mut placed = vec![];
         for batch in objects.chunks(BATCH) {
-            let update = |object: &Object| {
-                Update::store(object.id, object.bytes.len() as u64).carrying(Carried::of_collection(object.collection))
-            };
-            let slots: Vec<SlabAddress> = self.store.offer(&batch.iter().map(update).collect::<Vec<_>>())?.into_iter().flatten().collect();
+            let updates: Vec<Update> =
+                batch.iter().map(|object| Update::store(object.id, object.bytes.len() as u64).carrying(object.carried())).collect();
+            let slots: Vec<SlabAddress> = self.store.offer(&updates)?.into_iter().flatten().collect();
             for (object, at) in batch.iter().zip(&slots) {
                 self.write(*at, &object.bytes)?;
             }
@@ -93,9 +99,21 @@ fn some_objects(store: &mut Store, count: usize, night: u8) -> Answer<Vec<Object
     let object = |at: usize| {
         let id = store.allocate_object_id()?;
         let (collection, length) = if at % 4 == 3 { (FACES, 3_000 + at * 37 % 9_000) } else { (ICONS, 40 + at * 13 % 400) };
-        Ok(Object { id, collection, bytes: (0..length).map(|i| (i * 7 + at) as u8 ^ night).collect() })
+        let key = format!("{}/night-{night}/{at}", if collection == FACES { "faces" } else { "icons" });
+        Ok(Object { id, collection, key, bytes: (0..length).map(|i| (i * 7 + at) as u8 ^ night).collect() })
     };
     (0..count).map(object).collect()
+}
+
+/// A row as a line, as `./run stick FILE` writes it: id collection slab slot key, the key in quotes where each byte of it can be printed and is no
+/// quote, else in hex.
+fn line(row: &Row) -> String {
+    let is_text = row.carried.key.iter().all(|byte| matches!(byte, b' '..=b'~') && *byte != b'"');
+    let key = match is_text {
+        true => format!("\"{}\"", String::from_utf8_lossy(row.carried.key)),
+        false => row.carried.key.iter().fold("0x".into(), |hex, byte| format!("{hex}{byte:02x}")),
+    };
+    format!("{} {} {} {} {key}", row.id, row.carried.collection, row.location.slab(), row.location.slot())
 }
 
 fn copy_files(from: &Path, to: &Path) -> Answer<usize> {
@@ -153,6 +171,7 @@ fn carry(home: &Path) -> Answer<()> {
     // Its rows are read without a store, too.
     let rows = snapshot::rows(&carried)?.iter().map(|row| row.unpack(SLOTS)).collect::<Result<Vec<Row>, _>>()?;
     assert_eq!(rows, kiosk.store.live());
+    println!("Its rows can be read as they are, the first of them: {}", line(&rows[0]));
     let store = Store::from_snapshot(IDS, SLOTS, &carried)?;
     let mut laptop = Kiosk { folder: stick, store };
     assert_eq!(laptop.store.live(), kiosk.store.live());

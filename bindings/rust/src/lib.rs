@@ -4,17 +4,20 @@
 //! its answers Rust's types. A refusal has the number that document 01 or 02 gives it and changes nothing.
 //!
 //! ```
-//! use wentuhoro::{Store, Update};
+//! use wentuhoro::{Carried, Store, Update};
 //!
 //! // At most 8 objects, at most 8 slots in each slab.
 //! let mut store = Store::new(9, 8)?;
 //! let ids: Vec<u64> = (0..8).map(|_| store.allocate_object_id()).collect::<Result<_, _>>()?;
 //!
-//! // Slots are taken in list order. The caller writes them, then commits; or abandons, and the batch has left no trace.
-//! let batch: Vec<Update> = ids.iter().map(|&id| Update::store(id, 3)).collect();
+//! // Slots are taken in list order. The caller writes them, then commits; or abandons, and the batch has left no trace. A row may carry a
+//! // collection and a key of up to 64 bytes, at which placement does not look.
+//! let icon = Carried::of_collection(7).with_key(b"icons/lamp");
+//! let batch: Vec<Update> = ids.iter().map(|&id| Update::store(id, 3).carrying(icon)).collect();
 //! let placed = store.offer(&batch)?;
 //! store.commit()?;
-//! assert_eq!(store.get_location_for_object(6)?, placed[5].unwrap());
+//! let found = store.find(6)?;
+//! assert_eq!((found.location, found.carried.key), (placed[5].unwrap(), &b"icons/lamp"[..]));
 //!
 //! // What is freed is pending until a release, so that a reader's slot is not overwritten under it.
 //! store.offer(&[1, 2, 3, 5, 7].map(Update::free))?;

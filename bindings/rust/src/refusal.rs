@@ -62,7 +62,7 @@ kinds! {
     CheckDiffers = 4,
     /// A stored length, or an object to be written, longer than its slot takes.
     TooLong = 5,
-    /// A version of a cookie or of a snapshot's block that is not 1.
+    /// A version of a cookie that is not 1, or of a snapshot's block that is neither 1 nor 2.
     UnknownVersion = 6,
     /// The fanout differs.
     FanoutDiffers = 7,
@@ -88,8 +88,10 @@ kinds! {
     NothingToCut = 17,
     /// Bytes between object and frame are not zero.
     GapNotZero = 18,
-    /// A snapshot's block has a wrong number, count, padding or row order.
+    /// A snapshot's block has a wrong number, count, padding, key or row order, or another version than the block before.
     WrongBlock = 19,
+    /// A key of over 64 bytes.
+    KeyTooLong = 21,
 }
 
 impl Refusal {
@@ -123,19 +125,21 @@ mod tests {
         let kinds = [
             WrongShape, TooLarge, OutOfRange, CheckDiffers, TooLong, UnknownVersion, FanoutDiffers, NoSuchId, RepeatedId, NoneFree,
             BatchOpen, NoBatch, TablesDisagree, RatioOutOfRange, TooMany, RepeatedLocation, NothingToCut, GapNotZero, WrongBlock,
+            KeyTooLong,
         ];
-        assert!(kinds.into_iter().map(RefusalKind::number).eq(1..=19));
+        // 20 is no number of these calls.
+        assert!(kinds.into_iter().map(RefusalKind::number).eq((1..=19).chain([21])));
         assert_eq!(Refusal::unless_granted(0), Ok(()));
         assert_eq!(Refusal::unless_granted(2 * 256 + 9), Err(Refusal { kind: RefusalKind::RepeatedId, index: 2 }));
     }
 
-    /// Whatever number a library answers, it is shown; those from 1 to 19 have a name.
+    /// Whatever number a library answers, it is shown; those from 1 to 19, and 21, have a name.
     #[test]
     fn every_number_is_shown() {
         for number in 0..=255u8 {
             let refusal = Refusal::unless_granted(7 * 256 + u64::from(number)).unwrap_err();
             assert_eq!((refusal.kind.number(), refusal.index), (number, 7));
-            assert_eq!(matches!(refusal.kind, RefusalKind::Unnamed(_)), !(1..=19).contains(&number));
+            assert_eq!(matches!(refusal.kind, RefusalKind::Unnamed(_)), !matches!(number, 1..=19 | 21));
             let shown = refusal.to_string();
             assert!(shown.starts_with(&format!("refused with {number}")) && shown.ends_with(", index 7"), "{shown}");
         }

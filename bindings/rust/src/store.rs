@@ -23,28 +23,68 @@ pub struct Store {
     carried: Box<[u8]>,
 }
 
-/// One update of a batch.
+/// One update of a batch. What a Store carries is borrowed for as long as the update is kept; the store copies it.
+///
+/// ```
+/// use wentuhoro::{Carried, Store, Update};
+///
+/// let mut store = Store::new(9, 8)?;
+/// let id = store.allocate_object_id()?;
+/// let key = format!("icons/{id}");
+/// store.offer(&[Update::Store { id, length: 3, carried: Carried::of_collection(7).with_key(key.as_bytes()) }])?;
+/// store.commit()?;
+/// drop(key);
+/// assert_eq!(store.find(id)?.carried.key, b"icons/1");
+/// store.offer(&[Update::Free { id }])?;
+/// store.commit()?;
+/// assert!(store.find(id).is_err());
+/// # Ok::<(), wentuhoro::Refusal>(())
+/// ```
 #[derive(Clone, Copy, Debug, PartialEq, Eq, Hash)]
-pub enum Update {
+pub enum Update<'a> {
     /// An object of so many bytes takes a slot and becomes this id's, and the id's row carries this.
-    Store { id: u64, length: u64, carried: Carried },
+    Store { id: u64, length: u64, carried: Carried<'a> },
     /// The id and the slot that it has, if any, are given up.
     Free { id: u64 },
 }
 
 /// An object that is stored. [`Store::live`] gives these, and a [`rebuild`](Store::rebuild) takes them.
+///
+/// ```
+/// use wentuhoro::{Carried, Row, SlabAddress, Store};
+///
+/// let location = SlabAddress::from_slab_slot(3, 1)?;
+/// let row = Row { id: 5, location, carried: Carried::of_collection(7).with_key(b"lamp") };
+/// let mut store = Store::new(9, 8)?;
+/// store.rebuild(&[row])?;
+/// assert_eq!(store.find(5)?.location, location);
+/// # Ok::<(), wentuhoro::Refusal>(())
+/// ```
 #[derive(Clone, Copy, Debug, PartialEq, Eq, Hash)]
-pub struct Row {
+pub struct Row<'a> {
     pub id: u64,
     pub location: SlabAddress,
-    pub carried: Carried,
+    pub carried: Carried<'a>,
 }
 
-/// What a lookup answers.
+/// What a lookup answers. The key is the store's own bytes, so that the answer is gone when the store changes; a key that is kept is copied.
+///
+/// ```
+/// use wentuhoro::{Carried, Found, Row, SlabAddress, Store};
+///
+/// let row = Row::new(5, SlabAddress::from_slab_slot(3, 1)?).carrying(Carried::of_collection(7).with_key(b"lamp"));
+/// let mut store = Store::new(9, 8)?;
+/// store.rebuild(&[row])?;
+/// assert_eq!(store.find(5)?, Found { location: row.location, carried: row.carried });
+/// let key = store.find(5)?.carried.key.to_vec();
+/// store.fresh();
+/// assert_eq!(key, b"lamp");
+/// # Ok::<(), wentuhoro::Refusal>(())
+/// ```
 #[derive(Clone, Copy, Debug, PartialEq, Eq, Hash)]
-pub struct Found {
+pub struct Found<'a> {
     pub location: SlabAddress,
-    pub carried: Carried,
+    pub carried: Carried<'a>,
 }
 
 /// What was granted and freed since fresh or rebuild: ids, then slots of all slabs.
@@ -126,7 +166,7 @@ impl Store {
     /// A fresh store that holds the rows of a [`snapshot`](Self::snapshot). Of a store that was at rest when it was written, with nothing pending
     /// and every id stored, and of the same capacities, this one gives every later answer: ids, slots, refusals, defrag lists and what rows
     /// carry; counters and truncation excepted, which begin anew. Of any other store it holds the stored objects: ids without one, and what was
-    /// pending, are not in a snapshot and are free here.
+    /// pending, are not in a snapshot and are free here. A snapshot of version 1 has no keys: they are empty here.
     ///
     /// Refuses capacities as [`new`](Self::new) does, then bytes as [`snapshot::Rows`] does, with the block's number, then rows as a
     /// rebuild does, with the row's.
@@ -156,7 +196,7 @@ impl Store {
     /// pending, are no rows and become free.
     ///
     /// Refuses with 1, then for each row an id out of range with 8, a repeated one with 9, a slot past the capacity with 3, a repeated
-    /// location with 16.
+    /// location with 16, a key of over 64 bytes with 21.
     ///
     /// ```
     /// # use wentuhoro::{Store, Update};
@@ -172,7 +212,7 @@ impl Store {
     /// ```
     pub fn rebuild(&mut self, rows: &[Row]) -> Result<(), Refusal> {
         let (ids, locations) = rows.iter().map(|row| (row.id, row.location.packed())).unzip();
-        self.rebuild_from(&Lists { ids, locations, carried: Carried::packed(rows.iter().map(|row| row.carried)) })
+        self.rebuild_from(&Lists { ids, locations, carried: Carried::brought(rows.iter().map(|row| row.carried)) })
     }
 
     fn rebuild_from(&mut self, rows: &Lists) -> Result<(), Refusal> {
@@ -192,18 +232,21 @@ impl Store {
     /// The rows for a [`rebuild`](Self::rebuild): each id that has a location, in order. A rebuild from them gives every later answer as
     /// if it had not been made, counters and truncation excepted, where no batch is open, nothing is pending and every id is stored.
     ///
+    /// Their keys are this store's own bytes, so the rows are gone when it changes; a [`snapshot`](Self::snapshot) or a clone has them then.
+    ///
     /// ```
     /// # use wentuhoro::{Carried, Store, Update};
     /// # let mut store = Store::new(9, 8)?;
     /// let ids = [store.allocate_object_id()?, store.allocate_object_id()?];
-    /// store.offer(&[Update::store(ids[1], 3).carrying(Carried::of_collection(7))])?;
+    /// store.offer(&[Update::store(ids[1], 3).carrying(Carried::of_collection(7).with_key(b"lamp"))])?;
     /// store.commit()?;
     /// // Of the two ids one has an object.
-    /// let rows: Vec<_> = store.live().iter().map(|row| (row.id, row.location.slab(), row.carried.collection)).collect();
-    /// assert_eq!(rows, [(2, 0, 7)]);
+    /// let rows = store.live();
+    /// assert_eq!((rows.len(), rows[0].id, rows[0].location.slab()), (1, 2, 0));
+    /// assert_eq!((rows[0].carried.collection, rows[0].carried.key), (7, &b"lamp"[..]));
     /// # Ok::<(), wentuhoro::Refusal>(())
     /// ```
-    pub fn live(&self) -> Vec<Row> {
+    pub fn live(&self) -> Vec<Row<'_>> {
         let row = |id, Found { location, carried }| Row { id, location, carried };
         (1..self.ids as u64).filter_map(|id| Some(row(id, self.find(id).ok()?))).collect()
     }
@@ -212,13 +255,13 @@ impl Store {
     /// does where nothing is pending and every id is stored. Ids without an object, pending ids and pending slots are not in a snapshot: store
     /// or free the ones, and [`release`](Self::release) the others, before it is taken. Refuses while a batch is open with 11.
     ///
-    /// The module [`snapshot`] has the format, 512 bytes for each 20 objects.
+    /// The module [`snapshot`] has the format, 512 bytes for each five objects.
     ///
     /// ```
     /// use wentuhoro::{Store, Update};
     ///
     /// let mut store = Store::new(99, 99)?;
-    /// let ids = (0..21).map(|_| store.allocate_object_id()).collect::<Result<Vec<_>, _>>()?;
+    /// let ids = (0..6).map(|_| store.allocate_object_id()).collect::<Result<Vec<_>, _>>()?;
     /// store.offer(&ids.iter().map(|&id| Update::store(id, 3)).collect::<Vec<_>>())?;
     /// assert_eq!(store.snapshot().unwrap_err().kind.number(), 11);
     /// store.commit()?;
@@ -251,21 +294,23 @@ impl Store {
         Ok(self.find(id)?.location)
     }
 
-    /// Where an object lies, and what its row carries. Refuses an id that is not held or has no location with 8.
+    /// Where an object lies, and what its row carries; the key is this store's own bytes, and no copy is made of it. Refuses an id that is not held or
+    /// has no location with 8.
     ///
     /// ```
     /// # use wentuhoro::{Carried, Store, Update};
     /// # let mut store = Store::new(9, 8)?;
     /// let id = store.allocate_object_id()?;
-    /// store.offer(&[Update::store(id, 100).carrying(Carried::of_collection(7))])?;
+    /// store.offer(&[Update::store(id, 100).carrying(Carried::of_collection(7).with_key(b"lamp"))])?;
     /// // A batch takes effect with its commit.
     /// assert_eq!(store.find(id).unwrap_err().kind.number(), 8);
     /// store.commit()?;
     /// let found = store.find(id)?;
-    /// assert_eq!((found.location.slab(), found.location.slot(), found.carried.collection), (3, 0, 7));
+    /// assert_eq!((found.location.slab(), found.location.slot()), (3, 0));
+    /// assert_eq!((found.carried.collection, found.carried.key), (7, &b"lamp"[..]));
     /// # Ok::<(), wentuhoro::Refusal>(())
     /// ```
-    pub fn find(&self, id: u64) -> Result<Found, Refusal> {
+    pub fn find(&self, id: u64) -> Result<Found<'_>, Refusal> {
         let (mut location, mut row) = (0, [0; Carried::WIDTH]);
         lend!(
             self,
@@ -277,20 +322,22 @@ impl Store {
             row.len()
         )?;
         let location = SlabAddress::of(location).expect("a granted lookup has a location");
-        Ok(Found { location, carried: Carried::unpacked(row) })
+        // The row that was answered is the table's own.
+        Ok(Found { location, carried: Carried::kept(&self.carried[id as usize * Carried::WIDTH..][..Carried::WIDTH]) })
     }
 
     /// Opens a batch: takes the smallest free slot for each Store, in list order. The answer has a location for each update, none for a
     /// Free. The caller writes the slots, then calls [`commit`](Self::commit) or [`abandon`](Self::abandon).
     ///
     /// Refuses while a batch is open with 11, over 256 updates with 15; an update of an id that is not held with 8, of an earlier update's
-    /// id with 9, of too large an object with 2; and with 10, index of the slab, where a slab has too few free slots.
+    /// id with 9, with a key of over 64 bytes with 21, of too large an object with 2; and with 10, index of the slab, where a slab has too few
+    /// free slots.
     pub fn offer(&mut self, updates: &[Update]) -> Result<Vec<Option<SlabAddress>>, Refusal> {
         let count = updates.len();
         let ids: Vec<u64> = updates.iter().map(|update| update.id()).collect();
         let stores: Vec<bool> = updates.iter().map(|update| matches!(update, Update::Store { .. })).collect();
         let lengths: Vec<u64> = updates.iter().map(|update| update.length()).collect();
-        let carried = Carried::packed(updates.iter().map(|update| update.carried()));
+        let carried = Carried::brought(updates.iter().map(|update| update.carried()));
         let mut placed = vec![0; count];
         lend!(
             self,
@@ -406,15 +453,15 @@ impl Store {
     }
 }
 
-impl Update {
-    /// A Store whose row carries the default: collection 0.
+impl<'a> Update<'a> {
+    /// A Store whose row carries the default: collection 0, and an empty key.
     ///
     /// ```
     /// use wentuhoro::{Carried, Update};
     ///
     /// assert_eq!(Update::store(1, 3), Update::Store { id: 1, length: 3, carried: Carried::default() });
     /// ```
-    pub fn store(id: u64, length: u64) -> Update {
+    pub fn store(id: u64, length: u64) -> Update<'a> {
         Update::Store { id, length, carried: Carried::default() }
     }
 
@@ -425,7 +472,7 @@ impl Update {
     ///
     /// assert_eq!([1, 2].map(Update::free), [Update::Free { id: 1 }, Update::Free { id: 2 }]);
     /// ```
-    pub fn free(id: u64) -> Update {
+    pub fn free(id: u64) -> Update<'a> {
         Update::Free { id }
     }
 
@@ -434,14 +481,14 @@ impl Update {
     /// ```
     /// use wentuhoro::{Carried, Update};
     ///
-    /// let carried = Carried::of_collection(7);
+    /// let carried = Carried::of_collection(7).with_key(b"lamp");
     /// assert_eq!(Update::store(1, 3).carrying(carried), Update::Store { id: 1, length: 3, carried });
     /// assert_eq!(Update::free(1).carrying(carried), Update::Free { id: 1 });
     /// ```
-    pub fn carrying(self, carried: Carried) -> Update {
+    pub fn carrying(self, carried: Carried<'_>) -> Update<'_> {
         match self {
             Update::Store { id, length, .. } => Update::Store { id, length, carried },
-            Update::Free { .. } => self,
+            Update::Free { id } => Update::Free { id },
         }
     }
 
@@ -465,7 +512,7 @@ impl Update {
         }
     }
 
-    fn carried(&self) -> Carried {
+    fn carried(&self) -> Carried<'a> {
         match *self {
             Update::Store { carried, .. } => carried,
             Update::Free { .. } => Carried::default(),
@@ -473,16 +520,16 @@ impl Update {
     }
 }
 
-impl Row {
-    /// A row that carries the default: collection 0.
+impl<'a> Row<'a> {
+    /// A row that carries the default: collection 0, and an empty key.
     ///
     /// ```
-    /// use wentuhoro::{Row, SlabAddress};
+    /// use wentuhoro::{Carried, Row, SlabAddress};
     ///
-    /// assert_eq!(Row::new(5, SlabAddress::from_slab_slot(3, 1)?).carried.collection, 0);
+    /// assert_eq!(Row::new(5, SlabAddress::from_slab_slot(3, 1)?).carried, Carried::default());
     /// # Ok::<(), wentuhoro::Refusal>(())
     /// ```
-    pub fn new(id: u64, location: SlabAddress) -> Row {
+    pub fn new(id: u64, location: SlabAddress) -> Row<'a> {
         Row { id, location, carried: Carried::default() }
     }
 
@@ -492,12 +539,12 @@ impl Row {
     /// use wentuhoro::{Carried, Row, SlabAddress, Store};
     ///
     /// let mut store = Store::new(9, 8)?;
-    /// let row = Row::new(5, SlabAddress::from_slab_slot(3, 1)?).carrying(Carried::of_collection(7));
+    /// let row = Row::new(5, SlabAddress::from_slab_slot(3, 1)?).carrying(Carried::of_collection(7).with_key(b"lamp"));
     /// store.rebuild(&[row])?;
     /// assert_eq!(store.live(), [row]);
     /// # Ok::<(), wentuhoro::Refusal>(())
     /// ```
-    pub fn carrying(self, carried: Carried) -> Row {
-        Row { carried, ..self }
+    pub fn carrying(self, carried: Carried<'_>) -> Row<'_> {
+        Row { id: self.id, location: self.location, carried }
     }
 }
