@@ -20,7 +20,18 @@ pub fn frame_read(slot: &[u8]) -> Option<u64> {
 }
 
 /// The bytes that a row carries.
-pub const CARRIED_WIDTH: usize = 8;
+pub const CARRIED_WIDTH: usize = 80;
+/// The bytes of a key, where there is one.
+pub const KEY: usize = 16;
+
+/// What a row carries as it is brought: a collection, and a key of so many bytes.
+pub fn brought(collection: u64, length: usize) -> [u8; CARRIED_WIDTH] {
+    let mut row = [0; CARRIED_WIDTH];
+    row[..8].copy_from_slice(&collection.to_le_bytes());
+    row[8..16].copy_from_slice(&(length as u64).to_le_bytes());
+    row[16..16 + length].fill(collection as u8 | 1);
+    row
+}
 
 /// The updates of a batch, and room for its locations.
 #[derive(Clone)]
@@ -36,8 +47,13 @@ impl Batch {
     pub fn stores(ids: impl IntoIterator<Item = u64>, length: impl Fn(usize) -> u64) -> Batch {
         let ids: Vec<u64> = ids.into_iter().collect();
         let count = ids.len();
-        let carried = ids.iter().flat_map(|id| id.to_le_bytes()).collect();
+        let carried = ids.iter().flat_map(|id| brought(*id, 0)).collect();
         Batch { ids, stores: vec![true; count], lengths: (0..count).map(length).collect(), carried, placed: vec![0; count] }
+    }
+
+    /// The same, each object with a key of so many bytes.
+    pub fn with_keys(self, length: usize) -> Batch {
+        Batch { carried: self.ids.iter().flat_map(|id| brought(*id, length)).collect(), ..self }
     }
 
     pub fn frees(ids: impl IntoIterator<Item = u64>) -> Batch {
@@ -109,6 +125,13 @@ impl Ours {
         lend!(self, wentuhoro_lookup: id_marks, locations, slot_marks, owners, tallies, carried;
             id, &mut location, 1, row.as_mut_ptr(), row.len());
         location
+    }
+
+    /// An object's key, in the table.
+    pub fn key(&mut self, id: u64) -> &[u8] {
+        self.lookup(id);
+        let row = &self.carried[CARRIED_WIDTH * id as usize..][..CARRIED_WIDTH];
+        &row[9..9 + row[8] as usize]
     }
 
     fn offered(&mut self, batch: &mut Batch) -> u64 {

@@ -1,16 +1,17 @@
-//! A snapshot of 65,535 rows, written from the store's tables and read into lists, beside plain loops of Rust that do the same: the writer looks
-//! at each row's tables as ours does, the reader at each byte that ours looks at. Their check is crc32fast's, with what the machine has, and with
-//! its tables.
+//! A snapshot of 65,535 rows, of version 2 and with keys, written from the store's tables and read into lists, beside plain loops of Rust that do the
+//! same: the writer looks at each row's tables as ours does, the reader at each byte that ours looks at. Their check is crc32fast's, with what the
+//! machine has, and with its tables.
 use std::hint::black_box;
 
-use crate::ours::{snapshot_read, Ours, Rows, CARRIED_WIDTH};
+use crate::ours::{brought, snapshot_read, Ours, Rows, CARRIED_WIDTH, KEY};
 use crate::picture::Picture;
 use crate::store::{Table, CAPACITY};
 use crate::timing::best;
 
 const BLOCK: usize = 512;
-const BLOCK_ROWS: usize = 20;
-const ROW: usize = 24;
+const BLOCK_ROWS: usize = 5;
+const ROW: usize = 96;
+const MOST_KEY: usize = 64;
 const HEAD: usize = 8;
 const CHECK: usize = BLOCK - 4;
 
@@ -43,7 +44,7 @@ fn sign(block: &mut [u8], number: usize, count: usize, check: Check) {
     block[HEAD + ROW * count..CHECK].fill(0);
     block[..4].copy_from_slice(&(number as u32).to_le_bytes());
     block[4..6].copy_from_slice(&(count as u16).to_le_bytes());
-    block[6..8].copy_from_slice(&1u16.to_le_bytes());
+    block[6..8].copy_from_slice(&2u16.to_le_bytes());
     let sum = check(&block[..CHECK]) ^ 0xAF;
     block[CHECK..].copy_from_slice(&sum.to_le_bytes());
 }
@@ -64,8 +65,10 @@ fn plain_write(store: &Ours, file: &mut [u8], check: Check) -> bool {
         }
         let row = &mut file[BLOCK * number + HEAD + ROW * count..][..ROW];
         row[..8].copy_from_slice(&(id as u64).to_le_bytes());
-        row[8..16].copy_from_slice(&store.carried[CARRIED_WIDTH * id..CARRIED_WIDTH * (id + 1)]);
-        row[16..].copy_from_slice(&store.locations[id].to_le_bytes());
+        let (collection, key) = store.carried[CARRIED_WIDTH * id..CARRIED_WIDTH * (id + 1)].split_at(8);
+        row[8..16].copy_from_slice(collection);
+        row[16..24].copy_from_slice(&store.locations[id].to_le_bytes());
+        row[24..].copy_from_slice(key);
         count += 1;
     }
     sign(&mut file[BLOCK * number..BLOCK * (number + 1)], number, count, check);
@@ -80,7 +83,7 @@ fn plain_read(file: &[u8], rows: &mut Rows, check: Check) -> Option<usize> {
         let count = half(block, 4);
         let is_count = if number + 1 < blocks { count == BLOCK_ROWS } else { count <= BLOCK_ROWS && (count > 0 || blocks == 1) };
         let is_right = block[CHECK..] == (check(&block[..CHECK]) ^ 0xAF).to_le_bytes()
-            && half(block, 6) == 1
+            && half(block, 6) == 2
             && block[..4] == (number as u32).to_le_bytes()
             && is_count
             && block[HEAD + ROW * count..CHECK].iter().all(|byte| *byte == 0);
@@ -89,12 +92,16 @@ fn plain_read(file: &[u8], rows: &mut Rows, check: Check) -> Option<usize> {
         }
         for row in block[HEAD..HEAD + ROW * count].chunks_exact(ROW) {
             let id = word(row, 0);
-            if last >= Some(id) {
+            let length = row[24] as usize;
+            if last >= Some(id) || length > MOST_KEY || row[25 + length..].iter().any(|byte| *byte != 0) {
                 return None;
             }
             last = Some(id);
             rows.ids[read] = id;
-            rows.carried[CARRIED_WIDTH * read..CARRIED_WIDTH * (read + 1)].copy_from_slice(&row[8..16]);
+            let carried = &mut rows.carried[CARRIED_WIDTH * read..CARRIED_WIDTH * (read + 1)];
+            carried[..8].copy_from_slice(&row[8..16]);
+            carried[8..16].copy_from_slice(&(length as u64).to_le_bytes());
+            carried[16..].copy_from_slice(&row[25..25 + MOST_KEY]);
             rows.locations[read] = word(row, 16);
             read += 1;
         }
@@ -105,14 +112,14 @@ fn plain_read(file: &[u8], rows: &mut Rows, check: Check) -> Option<usize> {
 fn full_store(slabs: u64) -> Ours {
     let ids: Vec<u64> = (1..CAPACITY as u64).collect();
     let locations: Vec<u64> = ids.iter().map(|id| ((id % slabs + 1) << 56) + id / slabs).collect();
-    let carried: Vec<u8> = ids.iter().flat_map(|id| id.wrapping_mul(0x9E37_79B9_7F4A_7C15).to_le_bytes()).collect();
+    let carried: Vec<u8> = ids.iter().flat_map(|id| brought(id.wrapping_mul(0x9E37_79B9_7F4A_7C15), KEY)).collect();
     let mut store = Ours::new(CAPACITY, CAPACITY);
     store.rebuild(&ids, &locations, &carried);
     store
 }
 
 pub fn run(rounds: u32, picture: &mut Picture) {
-    let mut table = Table::new(picture, "snapshot of 65,535 rows", "ns a row, the Rust a plain loop");
+    let mut table = Table::new(picture, "snapshot of 65,535 rows with keys of 16 bytes", "ns a row, the Rust a plain loop");
     let count = CAPACITY - 1;
     let each = |time: f64| time / count as f64;
     for (what, slabs) in [("in one slab", 1), ("in 78 slabs", 78)] {

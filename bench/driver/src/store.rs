@@ -3,7 +3,7 @@ use std::hint::black_box;
 
 use crate::id_allocator::probe::set_free_and_tip;
 use crate::original::Original;
-use crate::ours::{Batch, Ours, CARRIED_WIDTH};
+use crate::ours::{brought, Batch, Ours, CARRIED_WIDTH, KEY};
 use crate::picture::Picture;
 use crate::timing::{best, Usual};
 
@@ -135,23 +135,29 @@ fn offered(pairs: &mut Pairs, at: usize, both: &mut Both, batch: &mut Batch) {
     pairs.of(at, both, |ours| { ours.offer(batch); batch.placed.clone() }, |rust| { rust.offer(&mut again); again.placed.clone() });
 }
 
-/// Objects anywhere among those held get a new slot each.
+/// Objects anywhere among those held get a new slot each: without keys, and in the next cycle with them. The Rust's stand-in for a key has no bytes, so
+/// that ours stand alone there.
 fn batches(rounds: u32, picture: &mut Picture) {
     let mut table = Table::new(picture, "a batch of 256 stores in one slab", "ns an object");
     for objects in [64 + BATCH, 4_096, FULL] {
         let mut both = Both::with(CAPACITY, CAPACITY, objects, |_| 3);
-        let (mut pairs, mut chance) = (Pairs::new(3), Chance(objects as u64));
+        let (mut keyless, mut keyed, mut chance) = (Pairs::new(3), Pairs::new(3), Chance(objects as u64));
         for cycle in 0..BEFORE + rounds * 4 {
             if cycle == BEFORE {
-                pairs = Pairs::new(3);
+                (keyless, keyed) = (Pairs::new(3), Pairs::new(3));
             }
-            offered(&mut pairs, 0, &mut both, &mut Batch::stores(chance.some(BATCH, objects), |_| 3));
-            pairs.of(1, &mut both, Ours::commit, Original::commit);
-            pairs.of(2, &mut both, Ours::release, Original::release);
+            for (pairs, length) in [(&mut keyless, 0), (&mut keyed, KEY)] {
+                offered(pairs, 0, &mut both, &mut Batch::stores(chance.some(BATCH, objects), |_| 3).with_keys(length));
+                pairs.of(1, &mut both, Ours::commit, Original::commit);
+                pairs.of(2, &mut both, Ours::release, Original::release);
+            }
         }
         for (at, call) in ["offer", "commit", "release"].into_iter().enumerate() {
-            let (ours, rust) = pairs.each(at, BATCH);
+            let (ours, rust) = keyless.each(at, BATCH);
             table.row(&format!("{call}, {} held", told(objects)), ours, rust);
+        }
+        for (at, call) in ["offer", "commit"].into_iter().enumerate() {
+            table.ours_alone(&format!("{call}, {} held, keys of {KEY} bytes", told(objects)), keyed.each(at, BATCH).0);
         }
     }
 }
@@ -225,6 +231,16 @@ fn lookups(rounds: u32, picture: &mut Picture) {
         let mut b = |calls| (0..calls).for_each(|_| ids.iter().for_each(|id| { black_box(rust.lookup(*id)); }));
         let t = best(rounds, 10, &mut [&mut a, &mut b]);
         table.row(&format!("{} held", told(objects)), t[0] / 1_024.0, t[1] / 1_024.0);
+        let held: Vec<u64> = (1..=objects as u64).collect();
+        for ids in held.chunks(BATCH) {
+            ours.offer(&mut Batch::stores(ids.iter().copied(), |_| 3).with_keys(KEY));
+            ours.commit();
+            ours.release();
+        }
+        assert_eq!(ours.key(1), &brought(1, KEY)[16..16 + KEY]);
+        let mut a = |calls| (0..calls).for_each(|_| ids.iter().for_each(|id| { black_box(ours.key(*id).iter().fold(0, |sum, byte| sum ^ byte)); }));
+        let t = best(rounds, 10, &mut [&mut a]);
+        table.ours_alone(&format!("{} held, and its key of {KEY} bytes read", told(objects)), t[0] / 1_024.0);
     }
 }
 
@@ -252,7 +268,7 @@ fn rebuild(rounds: u32, picture: &mut Picture) {
     for (what, slabs) in [("in one slab", 1), ("in 78 slabs", 78)] {
         let ids: Vec<u64> = (1..CAPACITY as u64).collect();
         let locations: Vec<u64> = ids.iter().map(|id| ((id % slabs + 1) << 56) + id / slabs).collect();
-        let carried: Vec<u8> = ids.iter().flat_map(|id| id.to_le_bytes()).collect();
+        let carried: Vec<u8> = ids.iter().flat_map(|id| brought(*id, 0)).collect();
         let rows = Original::rows(&ids, &locations);
         let mut both = Both::new(CAPACITY, CAPACITY);
         let mut pairs = Pairs::new(1);
