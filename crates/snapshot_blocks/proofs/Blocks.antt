@@ -1,5 +1,5 @@
 -- A block and its rows, both ways, over the format: what is written is right, and what is right is what its rows give. Assumes nothing.
-use mathlib.Core.Bool.{Bool, true, false, not, cond, _||_}
+use mathlib.Core.Bool.{Bool, true, false, not, cond, _&&_, _||_}
 use mathlib.Core.Path.{_≡_, refl, sym, ap, _∙_}
 use mathlib.Core.List.{List, [], _++_, append-assoc}
 use Prim.Native.Nat.{ℕ, _+_, _-_, _*_, _^_, _≤_, _<_}
@@ -8,7 +8,7 @@ use native.Mathlib.Omega.{arith}
 use lib.Dec.{eqb, leb, ltb}
 use lib.ListN.{length, take, drop, replicate, length-append, length-drop, length-replicate}
 use lib.Seq.{length-take-le, take-at, drop-at, drop-drop, take-add}
-use borrow.Author.Tests.{leb-true, eqb-true, eq-eqb}
+use borrow.Author.Tests.{leb-true, eqb-true, eq-eqb, not-true}
 use Rattle.refusal.proofs.Tests.{and-true}
 use Rattle.little_endian.specs.LittleEndian.{Bytes, bytesOf}
 use Rattle.little_endian.proofs.Laws.{append-bytes, drop-bytes, zero-bytes, bytesOf-bytes, length-bytesOf, word-bytesOf, getAt-middle}
@@ -18,7 +18,7 @@ use Rattle.sizes.specs.Sizes.{checkWidth}
 use Rattle.seal.specs.Seal.{checkOf, signed, isSigned}
 use Rattle.seal.proofs.Laws.{length-signed, isSigned-signed, signed-isSigned}
 use Rattle.snapshot_blocks.specs.Formats.{Format, rowLength, perBlock}
-use Rattle.snapshot_blocks.specs.Blocks.{Entry, rowsBytes, blockBody, blockOf, numberIn, countIn, versionIn, rowsInBlock, anyRefused, isCount, paddingAfter, ascending, wrongIn}
+use Rattle.snapshot_blocks.specs.Blocks.{Entry, rowsBytes, blockBody, blockOf, numberIn, countIn, versionIn, rowsInBlock, anyRefused, isCount, paddingAfter, ascending, rightIn, wrongIn}
 use Rattle.snapshot_blocks.specs.Valid.{Valid, All}
 use Rattle.snapshot_blocks.proofs.Fields.{field-back}
 use Rattle.snapshot_blocks.proofs.Rows.{Wide, all-wide, length-rowsBytes, rowsBytes-bytes, entriesIn-rowsBytes, rowsBytes-entriesIn, valid-entriesIn, length-entriesIn, anyRefused-valid}
@@ -52,35 +52,31 @@ pub record Right (f : Format) (number : ℕ) (last : Bool) (block : List ℕ) : 
   pub ordered : ascending (rowsInBlock f block) ≡ true
 
 pub wrongIn-right : (f : Format) (number : ℕ) (last : Bool) (block : List ℕ) → wrongIn f number last block ≡ 0 → Right f number last block
-unfolding wrongIn
-wrongIn-right f number last block =
-    by (isSigned block) (eqb (versionIn block) (f .version)) (eqb (numberIn block) number) (isCount f number last (countIn block))
-    (allZero (paddingAfter f (countIn block) block)) (anyRefused f (rowsInBlock f block)) (ascending (rowsInBlock f block)) refl refl refl refl refl refl refl
+unfolding wrongIn rightIn
+wrongIn-right f number last block = by (isSigned block) (eqb (versionIn block) (f .version)) (rightIn f number last block) refl refl refl
   where
-    by : (t u v w x y z : Bool) → isSigned block ≡ t → eqb (versionIn block) (f .version) ≡ u → eqb (numberIn block) number ≡ v → isCount f number last (countIn block) ≡ w
-        → allZero (paddingAfter f (countIn block) block) ≡ x → anyRefused f (rowsInBlock f block) ≡ y → ascending (rowsInBlock f block) ≡ z
-        → _≡_ {A = ℕ} (cond (not t) 4 (cond (not u) 6 (cond (not v) 19 (cond (not w) 19 (cond (not x) 19 (cond y 19 (cond (not z) 19 0))))))) 0
-        → Right f number last block
-    by true true true true true false true pt pu pv pw px py pz e =
+    by : (t u v : Bool) → isSigned block ≡ t → eqb (versionIn block) (f .version) ≡ u → rightIn f number last block ≡ v
+        → _≡_ {A = ℕ} (cond (not t) 4 (cond (not u) 6 (cond (not v) 19 0))) 0 → Right f number last block
+    by true true true pt pu pv e =
+        let a = and-true (eqb (numberIn block) number) _ pv in
+        let b = and-true (isCount f number last (countIn block)) _ (a .1) in
+        let d = and-true (allZero (paddingAfter f (countIn block) block)) _ (b .1) in
+        let g = and-true (not (anyRefused f (rowsInBlock f block))) _ (d .1) in
         record {
           intact = pt;
           versioned = eqb-true (versionIn block) (f .version) pu;
-          numbered = eqb-true (numberIn block) number pv;
-          counted = pw;
-          padded = px;
-          carries = py;
-          ordered = pz;
+          numbered = eqb-true (numberIn block) number (a .0);
+          counted = b .0;
+          padded = d .0;
+          carries = not-true _ (g .0);
+          ordered = g .1;
         }
-    by false u v w x y z pt pu pv pw px py pz e = absurd (omega arith)
-    by true false v w x y z pt pu pv pw px py pz e = absurd (omega arith)
-    by true true false w x y z pt pu pv pw px py pz e = absurd (omega arith)
-    by true true true false x y z pt pu pv pw px py pz e = absurd (omega arith)
-    by true true true true false y z pt pu pv pw px py pz e = absurd (omega arith)
-    by true true true true true true z pt pu pv pw px py pz e = absurd (omega arith)
-    by true true true true true false false pt pu pv pw px py pz e = absurd (omega arith)
+    by false u v pt pu pv e = absurd (omega arith)
+    by true false v pt pu pv e = absurd (omega arith)
+    by true true false pt pu pv e = absurd (omega arith)
 
 pub right-wrongIn : (f : Format) (number : ℕ) (last : Bool) (block : List ℕ) → Right f number last block → wrongIn f number last block ≡ 0
-unfolding wrongIn
+unfolding wrongIn rightIn
 right-wrongIn f number last block r =
     rw (r .intact, eq-eqb (versionIn block) (f .version) (r .versioned), eq-eqb (numberIn block) number (r .numbered), r .counted, r .padded, r .carries, r .ordered)
 

@@ -93,17 +93,18 @@ paddingAfter f count block = take (508 - (8 + rowLength f * count)) (drop (8 + r
 unfoldable pub isCount : Format → ℕ → Bool → ℕ → Bool
 isCount f number last count = cond last (leb count (perBlock f) && (ltb 0 count || eqb number 0)) (eqb count (perBlock f))
 
--- what is wrong in the block at `number` by itself: 0 for nothing
+-- whether the block at `number` has its number, as many rows as it may have, zeros behind them, and rows that the format does not refuse, which ascend
+unfoldable pub rightIn : Format → ℕ → Bool → List ℕ → Bool
+rightIn f number last block =
+    eqb (numberIn block) number && (isCount f number last (countIn block) && (allZero (paddingAfter f (countIn block) block)
+    && (not (anyRefused f (rowsInBlock f block)) && ascending (rowsInBlock f block))))
+
+-- what is wrong in it by itself: 0 for nothing
 unfoldable pub wrongIn : Format → ℕ → Bool → List ℕ → ℕ
 wrongIn f number last block =
     cond (not (isSigned block)) checkDiffers
     (cond (not (eqb (versionIn block) (f .version))) unknownVersion
-    (cond (not (eqb (numberIn block) number)) wrongBlock
-    (cond (not (isCount f number last (countIn block))) wrongBlock
-    (cond (not (allZero (paddingAfter f (countIn block) block))) wrongBlock
-    (cond (anyRefused f (rowsInBlock f block)) wrongBlock
-    (cond (not (ascending (rowsInBlock f block))) wrongBlock
-    0))))))
+    (cond (not (rightIn f number last block)) wrongBlock 0))
 
 -- the same of bytes of any length: 1 where they are no 512
 unfoldable pub judgedIn : Format → ℕ → Bool → List ℕ → ℕ

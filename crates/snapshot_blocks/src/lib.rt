@@ -8,7 +8,7 @@
 //
 // A row is written straight from the store's tables: one copy of what is carried and three stores of eight bytes, the location and what is carried found
 // by the id. What cannot be written leaves the block as it was.
-ghost use mathlib.Core.Bool.{not, cond};
+ghost use mathlib.Core.Bool.{not, cond, _&&_};
 ghost use mathlib.Core.List.{_++_, map};
 ghost use mathlib.Core.Path.{_≡_};
 ghost use Prim.Native.Nat.{_*_, _+_, _≤_, _<_, min};
@@ -17,7 +17,7 @@ ghost use lib.ListN.{length, take, drop};
 ghost use Rattle.zeros.specs.Zeros.{allZero};
 ghost use Rattle.keys.specs.Keys.{isNormal};
 ghost use Rattle.snapshot_blocks.specs.Formats.{Format, version2, formatOf, rowLength, perBlock};
-ghost use Rattle.snapshot_blocks.specs.Blocks.{entryFor, AreRows, rowBytes, rowsBytes, blockOf, countIn, versionIn, entryOf, entriesIn, ascending, anyRefused, paddingAfter, isCount, wrongIn, judgedIn, idAt, keyLengthIn, rowAt, eachBelow, canWrite};
+ghost use Rattle.snapshot_blocks.specs.Blocks.{entryFor, AreRows, rowBytes, rowsBytes, blockOf, countIn, versionIn, entryOf, entriesIn, ascending, anyRefused, paddingAfter, isCount, rightIn, wrongIn, judgedIn, idAt, keyLengthIn, rowAt, eachBelow, canWrite};
 use carried::WIDTH;
 use keys::MOST_KEY;
 use refusal::Refusal;
@@ -210,6 +210,39 @@ fn has_refused(block: &[u8], count: usize) -> bool
     any_refused(&block[ROWS_AT..], count)
 }
 
+// Whether what follows so many rows is zero, none of them is refused, and they ascend.
+fn has_right_rows(block: &[u8], count: usize) -> bool
+    requires { ⌜ (length (now block) ≡ 512) × (count ≤ perBlock (formatOf (versionIn (now block)))) ⌝ }
+    ensures { λ r. ⌜ r
+        ≡ (allZero (paddingAfter (formatOf (versionIn (now (block .entry)))) count (now (block .entry)))
+        && (not (anyRefused (formatOf (versionIn (now (block .entry))))
+        (entriesIn (formatOf (versionIn (now (block .entry)))) count (drop 8 (now (block .entry)))))
+        && ascending (entriesIn (formatOf (versionIn (now (block .entry)))) count (drop 8 (now (block .entry)))))) ⌝ }
+{
+    if !is_padded(block, count) {
+        return false;
+    }
+    if has_refused(block, count) {
+        return false;
+    }
+    is_ascending(&block[ROWS_AT..], width_in(block), count)
+}
+
+// Whether the number, the rows and the padding of a block are right.
+fn is_right(block: &[u8], number: usize, last: bool) -> bool
+    requires { ⌜ length (now block) ≡ 512 ⌝ }
+    ensures { λ r. ⌜ r ≡ rightIn (formatOf (versionIn (now (block .entry)))) number last (now (block .entry)) ⌝ }
+{
+    if little_endian::get_at(block, 0, COUNT_AT) != number as u64 {
+        return false;
+    }
+    let count = count_in(block);
+    if !is_count(most_in(block), number, last, count) {
+        return false;
+    }
+    has_right_rows(block, count)
+}
+
 // What is wrong in a block that has its length.
 fn wrong_in_block(block: &[u8], number: usize, last: bool) -> u8
     requires { ⌜ length (now block) ≡ 512 ⌝ }
@@ -221,20 +254,7 @@ fn wrong_in_block(block: &[u8], number: usize, last: bool) -> u8
     if !is_known(version_in(block)) {
         return Refusal::UNKNOWN_VERSION;
     }
-    if little_endian::get_at(block, 0, COUNT_AT) != number as u64 {
-        return Refusal::WRONG_BLOCK;
-    }
-    let count = count_in(block);
-    if !is_count(most_in(block), number, last, count) {
-        return Refusal::WRONG_BLOCK;
-    }
-    if !is_padded(block, count) {
-        return Refusal::WRONG_BLOCK;
-    }
-    if has_refused(block, count) {
-        return Refusal::WRONG_BLOCK;
-    }
-    if !is_ascending(&block[ROWS_AT..], width_in(block), count) {
+    if !is_right(block, number, last) {
         return Refusal::WRONG_BLOCK;
     }
     0

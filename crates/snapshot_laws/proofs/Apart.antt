@@ -13,9 +13,8 @@ use borrow.Author.Tests.{eq-eqb, ne-eqb, ltb-true, ltb-false, lt-ltb}
 use Rattle.refusal.specs.Refusals.{refusal}
 use Rattle.refusal.proofs.Tests.{by-test}
 use Rattle.seal.specs.Seal.{isSigned}
-use Rattle.zeros.specs.Zeros.{allZero}
 use Rattle.snapshot_blocks.specs.Formats.{Format, Reader, formatOf, formatBefore, version2, perBlock}
-use Rattle.snapshot_blocks.specs.Blocks.{Entry, blockOf, versionIn, numberIn, countIn, rowsInBlock, paddingAfter, anyRefused, ascending, isCount, wrongIn}
+use Rattle.snapshot_blocks.specs.Blocks.{Entry, blockOf, versionIn, rightIn, wrongIn}
 use Rattle.snapshot_blocks.specs.Valid.{Sound, Valid, All}
 use Rattle.snapshot_blocks.specs.Files.{fileFrom, fileOf}
 use Rattle.snapshot_blocks.proofs.Rows.{all-wide}
@@ -37,21 +36,11 @@ use Rattle.snapshot_laws.proofs.Files.{fit-fileOf, chunk, length-chunk-
 wrongIn-late : (f : Format) (number : ℕ) (last : Bool) (block : List ℕ) → isSigned block ≡ true → versionIn block ≡ f .version
     → (wrongIn f number last block ≡ 0) ⊎ (wrongIn f number last block ≡ 19)
 unfolding wrongIn
-wrongIn-late f number last block i v =
-    rw (i, eq-eqb (versionIn block) (f .version) v)
-    (by (eqb (numberIn block) number) (isCount f number last (countIn block)) (allZero (paddingAfter f (countIn block) block)) (anyRefused f (rowsInBlock f block))
-    (ascending (rowsInBlock f block)))
+wrongIn-late f number last block i v = rw (i, eq-eqb (versionIn block) (f .version) v) (by (rightIn f number last block))
   where
-    late : Bool → Bool → Bool → Bool → Bool → ℕ
-    late a b d e g = cond (not a) 19 (cond (not b) 19 (cond (not d) 19 (cond e 19 (cond (not g) 19 0))))
-
-    by : (a b d e g : Bool) → (late a b d e g ≡ 0) ⊎ (late a b d e g ≡ 19)
-    by false b d e g = inr refl
-    by true false d e g = inr refl
-    by true true false e g = inr refl
-    by true true true true g = inr refl
-    by true true true false false = inr refl
-    by true true true false true = inl refl
+    by : (right : Bool) → (_≡_ {A = ℕ} (cond (not right) 19 0) 0) ⊎ (_≡_ {A = ℕ} (cond (not right) 19 0) 19)
+    by false = inr refl
+    by true = inl refl
 
 wrongAt-apart : (f : Format) (before : ℕ) (file : List ℕ) → isPlace (suc before) (length file) ≡ true → isSigned (blockAt (suc before) file) ≡ true
     → versionIn (blockAt (suc before) file) ≡ f .version → versionIn (blockAt before file) ≢ f .version → wrongAt f (suc before) file ≡ 19
