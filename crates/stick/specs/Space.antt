@@ -4,4 +4,4 @@ use Prim.Native.Nat.{ℕ}
 use lib.ListN.{replicate}
 
 unfoldable pub zeros : List ℕ
-zeros = replicate 2097153 0
+zeros = replicate 6710785 0

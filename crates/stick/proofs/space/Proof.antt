@@ -8,7 +8,7 @@ use Rattle.stick.proofs.space.Tie as tie
 
 returns : tie.Need-returns
 unfolding zeros
-returns c = (refl, sym (length-replicate {A = ℕ} 2097153 0))
+returns c = (refl, sym (length-replicate {A = ℕ} 6710785 0))
 
 pub space-spec : {M : Type 1} → statement M
 space-spec = tie.close (tie.spec returns)
