@@ -1,27 +1,61 @@
--- The cases hold: what the rules give and what the document says compute to the same numbers. Assumes nothing.
+-- The cases hold: a test of each compares what the rules give with what the documents say by their numbers, which tell the answer (Coded); antt
+-- computes all the tests. Assumes nothing.
 use mathlib.Core.Path.{_≡_, refl}
-use mathlib.Core.Bool.{true}
+use mathlib.Core.Bool.{Bool, true, _&&_}
+use mathlib.Core.List.{List, [], _∷_}
 use lib.Ieee.{div, le, lt, eq, ofInt, toUnsigned, round, units, odd, size, span, climb}
-use Rattle.sizes.specs.Sizes.{slabSizes, fieldWidth, firstFit, slabFor, sizeOf}
-use Rattle.address.specs.Address.{badSlots}
+use Rattle.refusal.proofs.Tests.{and-true}
+use Rattle.sizes.specs.Sizes.{classOf, slabSizes, fieldWidth, firstFit, slabFor, sizeOf}
+use Rattle.address.specs.Address.{mostSlots, badSlots, packed, unpacked}
+use Rattle.address.specs.declared.Packed.the-variants.{Location}
+use Rattle.address.specs.declared.Unpacked.the-variants.{At}
 use Rattle.carried.specs.Carried.{putRow, putRows, upFrom, keptRow, committed}
 use Rattle.little_endian.specs.LittleEndian.{word, getAt}
 use Rattle.keys.specs.Keys.{keyIsLong, normal, longIn, normalRows}
 use Rattle.snapshot_blocks.specs.Formats.{perBlock}
 use Rattle.snapshot_blocks.specs.Files.{fileLength}
 use Rattle.fragmentation.specs.Cutoff.{isRatio, cutoff}
+use Rattle.fragmentation.specs.Answer.{cutoffOf}
 use Rattle.model.specs.Verdict.{_⨾_, test, testsFrom, earlier}
 use Rattle.model.specs.Tables.{badIds}
 use Rattle.model.specs.Ids.{bumpPending}
 use Rattle.model.specs.Batches.{room}
 use Rattle.model.specs.Defrag.{movesFrom}
+use Rattle.model.specs.Truncation.{cutAt}
 use Rattle.model.specs.Lending.{lentFit}
 use Rattle.model.specs.Columns.{offeredColumn, committedColumn, rebuiltColumn}
 use Rattle.model.specs.Snapshots.{thoseFrom}
 use Rattle.model.specs.Questions.{askRefusal, reply}
 use Rattle.model.specs.Step.{refusalOf, refusal, grant, effect, answer, next}
-use Rattle.model.specs.Cases.{allHold, cases}
+use Rattle.model.specs.Cases.{Case, class, packs, unpacks, defrags, truncates, call, Holds, AllHold, cases}
+use Rattle.model.proofs.Coded.{sameCode, classCode, packedCode, unpackedCode, cutoffCode, cutCode, answerCode}
+use Rattle.model.proofs.Coded.{same-class, same-packed, same-unpacked, same-cutoff, same-cut, same-answer}
 
-pub cases-hold : allHold cases ≡ true
-unfolding cases _⨾_ test answer next refusal refusalOf askRefusal reply lentFit grant effect badIds badSlots slabFor firstFit slabSizes fieldWidth sizeOf isRatio cutoff div le lt eq ofInt toUnsigned round units odd size span climb room bumpPending movesFrom offeredColumn committedColumn rebuiltColumn putRow putRows upFrom keptRow committed testsFrom earlier keyIsLong longIn normal normalRows getAt word thoseFrom fileLength perBlock
-cases-hold = refl
+-- whether a case holds, by the numbers
+abbrev holds : Case → Bool
+holds (class n c) = sameCode (classCode (classOf n)) (classCode c)
+holds (packs slab slot l) = sameCode (packedCode (packed mostSlots (record { slab = slab; slot = slot }))) (packedCode (Location l))
+holds (unpacks l slab slot) = sameCode (unpackedCode (unpacked mostSlots l)) (unpackedCode (At (record { slab = slab; slot = slot })))
+holds (defrags live tip r c) = sameCode (cutoffCode (cutoffOf live tip r)) (cutoffCode c)
+holds (truncates slab high t tip c) = sameCode (cutCode (cutAt slab high t tip)) (cutCode c)
+holds (call s c a) = sameCode (answerCode (answer s c)) (answerCode a)
+
+abbrev allHold : List Case → Bool
+allHold [] = true
+allHold (c ∷ cs) = holds c && allHold cs
+
+it-holds : (c : Case) → holds c ≡ true → Holds c
+it-holds (class n c) e = same-class _ _ e
+it-holds (packs slab slot l) e = same-packed _ _ e
+it-holds (unpacks l slab slot) e = same-unpacked _ _ e
+it-holds (defrags live tip r c) e = same-cutoff _ _ e
+it-holds (truncates slab high t tip c) e = same-cut _ _ e
+it-holds (call s c a) e = same-answer _ _ e
+
+all-hold : (cs : List Case) → allHold cs ≡ true → AllHold cs
+all-hold [] e = tt
+all-hold (c ∷ cs) e = let both = and-true (holds c) (allHold cs) e in (it-holds c (both .0), all-hold cs (both .1))
+
+pub cases-hold : AllHold cases
+unfolding cases classOf packed unpacked cutoffOf cutAt _⨾_ test answer next refusal refusalOf askRefusal reply lentFit grant effect badIds badSlots slabFor firstFit slabSizes fieldWidth sizeOf isRatio cutoff div le lt eq ofInt toUnsigned round units odd size span climb room bumpPending movesFrom offeredColumn committedColumn rebuiltColumn putRow putRows upFrom keptRow committed testsFrom earlier keyIsLong longIn normal normalRows getAt word thoseFrom fileLength perBlock
+cases-hold = all-hold cases refl

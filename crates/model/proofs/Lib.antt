@@ -8,6 +8,7 @@ pub mod Sizes
 pub mod Granted
 pub mod Answered
 pub mod Rows
+pub mod Coded
 pub mod Computed
 pub mod Words
 pub mod Slabs

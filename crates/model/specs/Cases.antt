@@ -1,59 +1,66 @@
--- Document 01, "Cases": P8, P9, P10, the run whole, and its easy slips, each as what the rules give beside what the document says; and the edges
--- of a cut. Assumes nothing.
-use mathlib.Core.Bool.{Bool, true, false, _&&_}
+-- Document 01, "Cases": all that are marked P, the run whole and the easy slips; the edges of a cut, and what the requests say of keys: one table of what is
+-- asked and what the documents say. proofs/Computed.antt has the one claim about it, `cases-hold`. Assumes nothing.
+use mathlib.Core.Path.{_≡_}
+use mathlib.Core.Bool.{true, false}
 use mathlib.Core.List.{List, [], _∷_, _++_, map}
 use Prim.Native.Nat.{ℕ, _-_}
-use lib.Dec.{eqb}
 use lib.ListN.{length, replicate}
 use lib.IntN.{negsuc}
 use lib.Ieee.{Float, fin}
-use Rattle.refusal.specs.Outcomes.{Values, granted, refused}
-use Rattle.refusal.specs.Refusals.{noSuchId, repeatedId, noneFree, repeatedLocation, keyTooLong}
-use Rattle.address.specs.Address.{packing}
-use Rattle.fragmentation.specs.Cutoff.{cutoff}
-use Rattle.model.specs.Store.{Store, Call, newId, release, offer, commit, rebuild, ask, lookup, counters, defrag, snapshotLength, keep, cut, Grant, gave, found}
-use Rattle.model.specs.Store.{placed, counts, moves, truncated, Answer}
+use Rattle.refusal.specs.Outcomes.{granted, refused}
+use Rattle.refusal.specs.Refusals.{refusal, tooLarge, noSuchId, repeatedId, noneFree, repeatedLocation, keyTooLong}
+use Rattle.sizes.specs.Sizes.{classOf}
+use Rattle.sizes.specs.declared.Class.{Class}
+use Rattle.sizes.specs.declared.Class.the-variants.{Slab, Refused}
+use Rattle.address.specs.Address.{mostSlots, packing, packed, unpacked}
+use Rattle.address.specs.declared.Packed.{Packed}
+use Rattle.address.specs.declared.Packed.the-variants.{Location}
+use Rattle.address.specs.declared.Unpacked.{Unpacked}
+use Rattle.address.specs.declared.Unpacked.the-variants.{At}
+use Rattle.fragmentation.specs.Answer.{cutoffOf}
+use Rattle.fragmentation.specs.declared.Cutoff.{Cutoff}
+use Rattle.fragmentation.specs.declared.Cutoff.the-variants.{From, Nothing}
+use Rattle.model.specs.Store.{Store, Call, newId, release, offer, commit, rebuild, ask, lookup, counters, defrag, snapshotLength, Cut, keep, cut}
+use Rattle.model.specs.Store.{gave, found, placed, counts, moves, Answer}
 use Rattle.model.specs.Rebuild.{columns}
-use Rattle.model.specs.Truncation.{cutOf}
-use Rattle.model.specs.Outcomes.{valuesOf, listsOf}
+use Rattle.model.specs.Truncation.{cutAt}
 use Rattle.model.specs.Step.{answer, state}
 
--- what the rules give, and what the document says
-pub record Case : Type 0 where
-  pub given : Values
-  pub written : Values
+-- ---- a case
 
--- the lists for the answer are values here too
+-- what is asked, and what the document says
+pub data Case : Type 0 where
+  -- so many bytes, and their class
+  class : ℕ → Class → Case
+  -- a slab, a slot and the location that they are packed into; and back
+  packs : ℕ → ℕ → ℕ → Case
+  unpacks : ℕ → ℕ → ℕ → Case
+  -- live slots, a tip and r, and where the list starts
+  defrags : ℕ → ℕ → Float → Cutoff → Case
+  -- a slab, its high mark, t and its tip, and what becomes of its file
+  truncates : ℕ → ℕ → ℕ → ℕ → Cut → Case
+  -- a store, a call and its answer
+  call : Store → Call → Answer → Case
+
+-- what the rules give is what is written: the answer itself, not only its numbers
+abbrev pub Holds : Case → Type 0
+Holds (class n c) = classOf n ≡ c
+Holds (packs slab slot l) = packed mostSlots (record { slab = slab; slot = slot }) ≡ Location l
+Holds (unpacks l slab slot) = unpacked mostSlots l ≡ At (record { slab = slab; slot = slot })
+Holds (defrags live tip r c) = cutoffOf live tip r ≡ c
+Holds (truncates slab high t tip c) = cutAt slab high t tip ≡ c
+Holds (call s c a) = answer s c ≡ a
+
+abbrev pub AllHold : List Case → Type 0
+AllHold [] = Unit
+AllHold (c ∷ cs) = Holds c × AllHold cs
+
+-- ---- calls and stores that the cases speak of
+
+-- lists, one after the other
 abbrev pub concat : List (List ℕ) → List ℕ
 concat [] = []
 concat (xs ∷ xss) = xs ++ concat xss
-
-abbrev pub said : Answer → Values
-said (granted g) = granted (valuesOf g ++ concat (listsOf g))
-said (refused n i) = refused n i
-
-abbrev pub case : Answer → Answer → Case
-case a b = record { given = said a; written = said b }
-
--- of what is granted
-abbrev pub caseOf : Grant → Grant → Case
-caseOf a b = case (granted a) (granted b)
-
-abbrev pub sameList : List ℕ → List ℕ → Bool
-sameList [] [] = true
-sameList [] (y ∷ ys) = false
-sameList (x ∷ xs) [] = false
-sameList (x ∷ xs) (y ∷ ys) = eqb x y && sameList xs ys
-
-abbrev pub same : Values → Values → Bool
-same (granted xs) (granted ys) = sameList xs ys
-same (granted xs) (refused n i) = false
-same (refused n i) (granted ys) = false
-same (refused n i) (refused k j) = eqb n k && eqb i j
-
-abbrev pub allHold : List Case → Bool
-allHold [] = true
-allHold (c ∷ cs) = same (c .given) (c .written) && allHold cs
 
 -- a row as it is brought, with a collection, below 256, a key, and bytes behind it that are not looked at; and as it is kept
 abbrev pub bringing : ℕ → List ℕ → List ℕ
@@ -123,55 +130,68 @@ nineOfTen =
 abbrev pub defragOf : Float → ℕ → Call
 defragOf r n = ask (defrag r (replicate n 0) (replicate n 0))
 
+-- ---- the table
+
 unfoldable pub cases : List Case
 cases =
-    -- P8: with the release the next id is 2, without it 4
-    case (answer (state 9 4 (stored3 ++ release ∷ [])) newId) (granted (gave 2)) ∷
-    case (answer (state 9 4 stored3) newId) (granted (gave 4)) ∷
-    -- P9: from 4; nothing, which is from the tip on
-    caseOf (gave (cutoff 3 8 threeQuarters)) (gave 4) ∷
-    caseOf (gave (cutoff 4 8 half)) (gave 8) ∷
-    -- P10 as request 2026-05 reads it: size 64, the top, high mark 99, t 80
-    caseOf (truncated (cutOf 64 39 99 80)) (truncated (cut 2944 3456)) ∷
-    caseOf (truncated (cutOf 64 16 99 80)) (truncated (cut 1280 5120)) ∷
-    caseOf (truncated (cutOf 64 15 99 80)) (truncated (cut 1024 5376)) ∷
+    -- P1
+    class 0 (Slab 0) ∷
+    -- P2
+    class 59 (Slab 0) ∷ class 60 (Slab 1) ∷
+    -- P3
+    class 250 (Slab 8) ∷ class 251 (Slab 9) ∷
+    -- P4
+    class 65528 (Slab 40) ∷ class 65529 (Slab 41) ∷
+    -- P5
+    class 4294967284 (Slab 73) ∷ class 4294967285 (Slab 74) ∷
+    -- P6
+    class 17179869172 (Slab 77) ∷ class 17179869173 (Refused (refusal tooLarge 0)) ∷
+    -- P7
+    packs 0 0 72057594037927936 ∷ packs 77 5 5620492334958379013 ∷ unpacks 72057594037927936 0 0 ∷ unpacks 5620492334958379013 77 5 ∷
+    -- P8: new ids 1, 2, 3; after both batches the next is 2 with the release, 4 without
+    call (state 9 4 []) newId (granted (gave 1)) ∷
+    call (state 9 4 (newId ∷ [])) newId (granted (gave 2)) ∷
+    call (state 9 4 (newId ∷ newId ∷ [])) newId (granted (gave 3)) ∷
+    call (state 9 4 (stored3 ++ release ∷ [])) newId (granted (gave 2)) ∷
+    call (state 9 4 stored3) newId (granted (gave 4)) ∷
+    -- P9
+    defrags 3 8 threeQuarters (From 4) ∷ defrags 4 8 half Nothing ∷
+    -- P10 as request 2026-05 reads it: slab 0, whose slots have 64 bytes, high mark 99, t 80, the tip
+    truncates 0 99 80 40 (cut 2944 3456) ∷ truncates 0 99 80 17 (cut 1280 5120) ∷ truncates 0 99 80 16 (cut 1024 5376) ∷
     -- one slot in use: 1 percent of 100 slots, less than 1 of 101
-    caseOf (truncated (cutOf 64 0 99 1)) (truncated keep) ∷
-    caseOf (truncated (cutOf 64 0 100 1)) (truncated (cut 64 6400)) ∷
+    truncates 0 99 1 1 keep ∷ truncates 0 100 1 1 (cut 64 6400) ∷
     -- 17 slots of 20 are below 86 percent, and 19.55 rounded up leave nothing to cut; of 21 they leave one slot
-    caseOf (truncated (cutOf 64 16 19 86)) (truncated keep) ∷
-    caseOf (truncated (cutOf 64 16 20 86)) (truncated (cut 1280 64)) ∷
+    truncates 0 19 86 17 keep ∷ truncates 0 20 86 17 (cut 1280 64) ∷
     -- the top is the high mark
-    caseOf (truncated (cutOf 64 99 99 86)) (truncated keep) ∷
+    truncates 0 99 86 100 keep ∷
     -- the largest slots, 65,536 of them: the most that are below 86 percent, and one more
-    caseOf (truncated (cutOf 17179869184 56359 65535 86)) (truncated (cut 1113496041291776 12403865550848)) ∷
-    caseOf (truncated (cutOf 17179869184 56360 65535 86)) (truncated keep) ∷
+    truncates 77 65535 86 56360 (cut 1113496041291776 12403865550848) ∷ truncates 77 65535 86 56361 keep ∷
     -- the run whole: slab 0 slot 5 has id 6, slot 7 id 8
-    case (answer afterWhole (defragOf threeQuarters 8)) (granted (moves ((6, packing 0 5) ∷ (8, packing 0 7) ∷ []))) ∷
+    call afterWhole (defragOf threeQuarters 8) (granted (moves ((6, packing 0 5) ∷ (8, packing 0 7) ∷ []))) ∷
     -- the quotient is rounded before it is cut: 9 / r is 10, not 9 and a fraction, so that nothing is listed
-    case (answer (state 11 10 nineOfTen) (defragOf aboveNineTenths 10)) (granted (moves [])) ∷
+    call (state 11 10 nineOfTen) (defragOf aboveNineTenths 10) (granted (moves [])) ∷
     -- a committed Store is found
-    case (answer afterWhole (ask (lookup 6 (keeping 0 [])))) (granted (found (packing 0 5) (keeping 6 (6 ∷ 7 ∷ [])))) ∷
+    call afterWhole (ask (lookup 6 (keeping 0 []))) (granted (found (packing 0 5) (keeping 6 (6 ∷ 7 ∷ [])))) ∷
     -- and has a row in the snapshot, of which there are three: one block
-    case (answer afterWhole (ask snapshotLength)) (granted (gave 512)) ∷
+    call afterWhole (ask snapshotLength) (granted (gave 512)) ∷
     -- its counters: 0 was held with the first id, and five ids and slots were freed
-    case (answer afterWhole (ask counters))
+    call afterWhole (ask counters)
     (granted (counts (9 ∷ 8 ∷ replicate 77 0) (5 ∷ 5 ∷ replicate 77 0)
     (record { objectsAllocated = 9; objectsFreed = 5; heapSlotsAllocated = 8; heapSlotsFreed = 5 }))) ∷
     -- a slot freed at commit is pending: the next batch takes another
-    case (answer (state 9 4 stored3) (stores (1 ∷ []))) (granted (placed (packing 0 3 ∷ []))) ∷
-    case (answer (state 9 4 stored3) (stores (1 ∷ 3 ∷ []))) (refused noneFree 0) ∷
+    call (state 9 4 stored3) (stores (1 ∷ [])) (granted (placed (packing 0 3 ∷ []))) ∷
+    call (state 9 4 stored3) (stores (1 ∷ 3 ∷ [])) (refused noneFree 0) ∷
     -- request 2026-06: a key over 64 is refused after 8 and 9, before 2; a Free's was not looked at
-    case (answer (state 9 4 stored3) (storesLong (3 ∷ []) 3)) (refused keyTooLong 1) ∷
-    case (answer (state 9 4 stored3) (storesLong (4 ∷ []) 3)) (refused noSuchId 1) ∷
-    case (answer (state 9 4 stored3) (storesLong (1 ∷ []) 3)) (refused repeatedId 1) ∷
-    case (answer (state 9 4 stored3) (storesLong (3 ∷ []) 17179869173)) (refused keyTooLong 1) ∷
+    call (state 9 4 stored3) (storesLong (3 ∷ []) 3) (refused keyTooLong 1) ∷
+    call (state 9 4 stored3) (storesLong (4 ∷ []) 3) (refused noSuchId 1) ∷
+    call (state 9 4 stored3) (storesLong (1 ∷ []) 3) (refused repeatedId 1) ∷
+    call (state 9 4 stored3) (storesLong (3 ∷ []) 17179869173) (refused keyTooLong 1) ∷
     -- a key of 64 bytes is kept whole
-    case (answer (state 9 4 (rebuild (columns ((1, packing 0 0) ∷ []) (bringing 9 longest)) ∷ [])) (ask (lookup 1 (keeping 0 []))))
+    call (state 9 4 (rebuild (columns ((1, packing 0 0) ∷ []) (bringing 9 longest)) ∷ [])) (ask (lookup 1 (keeping 0 [])))
     (granted (found (packing 0 0) (keeping 9 longest))) ∷
     -- per row of a rebuild after the others
-    case (answer (state 9 4 []) (rebuild (columns ((1, packing 0 0) ∷ (3, packing 0 1) ∷ []) (bringing 1 [] ++ tooMuch)))) (refused keyTooLong 1) ∷
-    case (answer (state 9 4 []) (rebuild (columns ((1, packing 0 0) ∷ (3, packing 0 0) ∷ []) (bringing 1 [] ++ tooMuch)))) (refused repeatedLocation 1) ∷
+    call (state 9 4 []) (rebuild (columns ((1, packing 0 0) ∷ (3, packing 0 1) ∷ []) (bringing 1 [] ++ tooMuch))) (refused keyTooLong 1) ∷
+    call (state 9 4 []) (rebuild (columns ((1, packing 0 0) ∷ (3, packing 0 0) ∷ []) (bringing 1 [] ++ tooMuch))) (refused repeatedLocation 1) ∷
     -- after a rebuild 0 is free, and is not issued
-    case (answer (state 9 4 (rebuild (columns ((1, packing 0 0) ∷ (3, packing 0 1) ∷ []) (rowsFor (1 ∷ 3 ∷ []))) ∷ [])) newId) (granted (gave 2)) ∷
+    call (state 9 4 (rebuild (columns ((1, packing 0 0) ∷ (3, packing 0 1) ∷ []) (rowsFor (1 ∷ 3 ∷ []))) ∷ [])) newId (granted (gave 2)) ∷
     []

@@ -2,8 +2,9 @@
 -- (README.md there has the grammar) by oracle/sample_data: the answer is the Rust's where that is the documents' too, and elsewhere that of the
 -- oracle's model of them.
 -- Assumes nothing.
-use mathlib.Core.Bool.{Bool, true, false, _&&_}
-use mathlib.Core.List.{List, [], _∷_, _++_}
+use mathlib.Core.Path.{_≡_}
+use mathlib.Core.Bool.{Bool, true, false}
+use mathlib.Core.List.{List, [], _∷_, _++_, map}
 use Prim.Native.Nat.{ℕ, _-_}
 use lib.ListN.{length, set, replicate}
 use lib.IntN.{pos, negsuc}
@@ -16,7 +17,7 @@ use Rattle.model.specs.Store.{keep, cut, Grant, done, gave, found, placed, coun
 use Rattle.model.specs.Tables.{allocators}
 use Rattle.model.specs.Rebuild.{freshStore}
 use Rattle.model.specs.Step.{answer, next}
-use Rattle.model.specs.Cases.{said, same, defragOf}
+use Rattle.model.specs.Cases.{concat, defragOf}
 
 -- a call, and what was answered
 pub record Asked : Type 0 where
@@ -38,16 +39,12 @@ plain c = bytesOf 8 c ++ replicate 72 0
 abbrev pub keyed : ℕ → ℕ → List ℕ → List ℕ
 keyed c n k = bytesOf 8 c ++ (bytesOf 8 n ++ (k ++ replicate (64 - length k) 0))
 
-abbrev pub rowsOf : List (List ℕ) → List ℕ
-rowsOf [] = []
-rowsOf (r ∷ rs) = r ++ rowsOf rs
-
 -- what is lent for the answer holds some numbers, as many as there are updates
 abbrev pub offerOf : List ℕ → List Bool → List ℕ → List (List ℕ) → Call
-offerOf is ss ls rs = offer (record { ids = is; stores = ss; lengths = ls; carried = rowsOf rs; placed = is })
+offerOf is ss ls rs = offer (record { ids = is; stores = ss; lengths = ls; carried = concat rs; placed = is })
 
 abbrev pub rebuildOf : List ℕ → List ℕ → List (List ℕ) → Call
-rebuildOf is ls rs = rebuild (record { ids = is; locations = ls; carried = rowsOf rs })
+rebuildOf is ls rs = rebuild (record { ids = is; locations = ls; carried = concat rs })
 
 abbrev pub lookupOf : ℕ → Call
 lookupOf i = ask (lookup i (replicate width 0))
@@ -73,10 +70,18 @@ abbrev pub countsFrom : List (ℕ × ℕ × ℕ) → ℕ → ℕ → ℕ → ℕ
 countsFrom cs a b c d = counts (grantedFrom cs) (freedFrom cs)
     (record { objectsAllocated = a; objectsFreed = b; heapSlotsAllocated = c; heapSlotsFreed = d })
 
--- every call is answered so, one after the other
-abbrev pub agrees : Store → List Asked → Bool
-agrees s [] = true
-agrees s (q ∷ qs) = same (said (answer s (q .call))) (said (q .answered)) && agrees (next s (q .call)) qs
+-- what the rules answer, one call after the other
+abbrev pub answersTo : Store → List Asked → List Answer
+answersTo s [] = []
+answersTo s (q ∷ qs) = answer s (q .call) ∷ answersTo (next s (q .call)) qs
+
+-- each is the answer that stands there
+abbrev pub Agrees : Store → List Asked → Type 0
+Agrees s qs = answersTo s qs ≡ map (λ (q : Asked). q .answered) qs
+
+abbrev pub AllAgree : List (Store × List Asked) → Type 0
+AllAgree [] = Unit
+AllAgree (h ∷ hs) = Agrees (h .0) (h .1) × AllAgree hs
 
 -- ---- the sample
 
@@ -322,15 +327,16 @@ sample10 =
     asked (truncation 0 85) (truncated (cut 1280 64)) ∷ asked (truncation 0 86) (truncated (cut 1280 64)) ∷ denied (truncation 0 87) 14 0 ∷
     asked (report 0 86) done ∷ denied (report 0 86) 17 0 ∷ asked (truncation 0 86) (truncated keep) ∷ []
 
-unfoldable pub sampleAgrees : Bool
-sampleAgrees =
-    agrees (freshStore 9 8) sample1 &&
-    agrees (freshStore 9 12) sample2 &&
-    agrees (freshStore 5 2) sample3 &&
-    agrees (freshStore 5 9) sample4 &&
-    agrees (freshStore 5 2) sample5 &&
-    agrees (freshStore 8 4) sample6 &&
-    agrees (freshStore 3 1) sample7 &&
-    agrees (freshStore 7 20) sample8 &&
-    agrees (freshStore 3 20) sample9 &&
-    agrees (freshStore 3 21) sample10
+unfoldable pub samples : List (Store × List Asked)
+samples =
+    (freshStore 9 8, sample1) ∷
+    (freshStore 9 12, sample2) ∷
+    (freshStore 5 2, sample3) ∷
+    (freshStore 5 9, sample4) ∷
+    (freshStore 5 2, sample5) ∷
+    (freshStore 8 4, sample6) ∷
+    (freshStore 3 1, sample7) ∷
+    (freshStore 7 20, sample8) ∷
+    (freshStore 3 20, sample9) ∷
+    (freshStore 3 21, sample10) ∷
+    []
