@@ -1,3 +1,1 @@
-pub mod Leaves
 pub mod Answers
-pub mod Snapshots

@@ -9,10 +9,10 @@ ghost use Rattle.frame.specs.Outcomes.{verdictOutcome};
 ghost use Rattle.settings.specs.Settings.{storing, settingsOf, agreement};
 ghost use Rattle.settings.specs.Outcomes.{persistentSettingsOutcome};
 ghost use Rattle.address.specs.Address.{packed, unpacked};
-ghost use Rattle.address.specs.Outcomes.{packedOutcome};
+ghost use Rattle.address.specs.Outcomes.{packedOutcome, unpackedOutcome};
 ghost use Rattle.fragmentation.specs.Answer.{cutoffOf};
-ghost use Rattle.exports_status.specs.Status.{statusOf, Exported, exported};
-ghost use Rattle.exports.specs.Leaves.{unpackedInThree, cutoffInTwo};
+ghost use Rattle.fragmentation.specs.Outcomes.{cutoffOutcome};
+ghost use Rattle.exports_status.specs.Status.{statusOf, orZeros, Exported, exported};
 use crate::values;
 use address::Packed;
 use address::SlabAddress;
@@ -160,7 +160,7 @@ pub extern "C" fn wentuhoro_pack(
 #[no_mangle]
 pub extern "C" fn wentuhoro_unpack(slots: usize, location: u64, address: &mut [u64]) -> u64
     ensures { λ r. ⌜ _≡_ {A = Exported} (record { status = r; lent = now (address .exit) })
-        (exported 3 (unpackedInThree (unpacked slots location)) (now (address .entry))) ⌝ }
+        (exported 3 (orZeros 3 (unpackedOutcome (unpacked slots location))) (now (address .entry))) ⌝ }
 {
     if address.len() != 3 {
         return WRONG_LENGTH;
@@ -187,7 +187,7 @@ pub extern "C" fn wentuhoro_fragmentation_cutoff(
     cutoff: &mut [u64],
 ) -> u64
     ensures { λ r. ⌜ _≡_ {A = Exported} (record { status = r; lent = now (cutoff .exit) })
-        (exported 2 (cutoffInTwo (cutoffOf live tip ratio)) (now (cutoff .entry))) ⌝ }
+        (exported 2 (orZeros 2 (cutoffOutcome (cutoffOf live tip ratio))) (now (cutoff .entry))) ⌝ }
 {
     if cutoff.len() != 2 {
         return WRONG_LENGTH;

@@ -5,10 +5,11 @@ ghost use Rattle.model.specs.Lent.{answered};
 ghost use Rattle.model.specs.Outcomes.{outcomeOf, listIn};
 ghost use Rattle.snapshot_blocks.specs.Formats.{formatOf};
 ghost use Rattle.snapshot.specs.Snapshot.{stepBy};
+ghost use Rattle.snapshot.specs.Outcomes.{stepOutcome};
 ghost use Rattle.snapshot_lists.specs.Lists.{readInto};
-ghost use Rattle.exports_status.specs.Status.{statusOf, Exported, exported};
+ghost use Rattle.snapshot_lists.specs.Outcomes.{takenOutcome};
+ghost use Rattle.exports_status.specs.Status.{statusOf, orZeros, Exported, exported};
 ghost use Rattle.exports.specs.Answers.{whereFits};
-ghost use Rattle.exports.specs.Snapshots.{stepInEight, takenInOne};
 use crate::values;
 use exports_status::WRONG_LENGTH;
 use exports_status::status;
@@ -110,7 +111,7 @@ pub extern "C" fn wentuhoro_snapshot_step(
     values: &mut [u64],
 ) -> u64
     ensures { λ r. ⌜ _≡_ {A = Exported} (record { status = r; lent = now (values .exit) })
-        (exported 8 (stepInEight (stepBy formatOf block row (now (file .entry)))) (now (values .entry))) ⌝ }
+        (exported 8 (orZeros 8 (stepOutcome (stepBy formatOf block row (now (file .entry))))) (now (values .entry))) ⌝ }
 {
     if values.len() != 8 {
         return WRONG_LENGTH;
@@ -150,7 +151,7 @@ pub extern "C" fn wentuhoro_snapshot_read(
 ) -> u64
     ensures { λ r. ⌜ _≡_ {A = Exported} (record { status = r; lent = now (rows .exit) })
         (exported 1
-        (takenInOne
+        (takenOutcome
         (readInto (now (file .entry)) (now («row_ids» .entry)) (now («row_locations» .entry)) (now («row_carried» .entry)) .answer))
         (now (rows .entry))) ⌝ }
     ensures { λ _. ⌜ now («row_ids» .exit)

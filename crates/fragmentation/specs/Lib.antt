@@ -1,2 +1,3 @@
 pub mod Cutoff
 pub mod Answer
+pub mod Outcomes

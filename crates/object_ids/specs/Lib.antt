@@ -1,2 +1,3 @@
 pub mod NewIds
 pub mod Counts
+pub mod Outcomes

@@ -1,2 +1,3 @@
 pub mod Truncations
 pub mod Cuts
+pub mod Outcomes

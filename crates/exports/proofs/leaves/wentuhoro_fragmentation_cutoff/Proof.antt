@@ -1,7 +1,7 @@
 use mathlib.Core.Path.{sym, ap, _∙_}
 use Rattle.fragmentation.specs.declared.Cutoff.{Cutoff}
-use Rattle.exports_status.specs.Status.{statusOf, valuesIn}
-use Rattle.exports.specs.Leaves.{cutoffInTwo}
+use Rattle.fragmentation.specs.Outcomes.{cutoffOutcome}
+use Rattle.exports_status.specs.Status.{statusOf, valuesIn, orZeros}
 use Rattle.exports.proofs.Laws.{exported-short, exported-is}
 use Rattle.exports.proofs.leaves.wentuhoro_fragmentation_cutoff.Statement.{statement}
 use Rattle.exports.proofs.leaves.wentuhoro_fragmentation_cutoff.Tie as tie
@@ -38,8 +38,8 @@ returns-2 : tie.Need-returns-2
 returns-2 c =
     let lent = c .before .before .before .before .before .before .before .before .before .before .args .cutoff .now in
     let e = sym (c .before .before .before .before .before .before .before .fragmentation-cutoff .ensures) ∙ c .before .before .before .before .before .slot .given .1 in
-    exported-is 2 lent _ _ _ (c .before .before .before .before .before .before .before .before .if1 .left) (ap (λ (x : Cutoff). statusOf (cutoffInTwo x)) e)
-    (ap (λ (x : Cutoff). valuesIn (cutoffInTwo x) lent) e ∙ sym (c .before .before .two .ensures))
+    exported-is 2 lent _ _ _ (c .before .before .before .before .before .before .before .before .if1 .left) (ap (λ (x : Cutoff). statusOf (orZeros 2 (cutoffOutcome x))) e)
+    (ap (λ (x : Cutoff). valuesIn (orZeros 2 (cutoffOutcome x)) lent) e ∙ sym (c .before .before .two .ensures))
 
 same-length-2 : tie.Need-same-length-2
 same-length-2 c = search
@@ -48,15 +48,15 @@ returns-3 : tie.Need-returns-3
 returns-3 c =
     let lent = c .before .before .before .before .before .before .before .before .before .args .cutoff .now in
     let e = sym (c .before .before .before .before .before .before .fragmentation-cutoff .ensures) ∙ c .before .before .before .before .enum-told .given .1 in
-    exported-is 2 lent _ _ _ (c .before .before .before .before .before .before .before .if1 .left) (ap (λ (x : Cutoff). statusOf (cutoffInTwo x)) e)
-    (ap (λ (x : Cutoff). valuesIn (cutoffInTwo x) lent) e ∙ sym (c .before .before .two2 .ensures))
+    exported-is 2 lent _ _ _ (c .before .before .before .before .before .before .before .if1 .left) (ap (λ (x : Cutoff). statusOf (orZeros 2 (cutoffOutcome x))) e)
+    (ap (λ (x : Cutoff). valuesIn (orZeros 2 (cutoffOutcome x)) lent) e ∙ sym (c .before .before .two2 .ensures))
 
 returns-4 : tie.Need-returns-4
 returns-4 c =
     let lent = c .before .before .before .before .before .before .before .args .cutoff .now in
     let e = sym (c .before .before .before .before .fragmentation-cutoff .ensures) ∙ c .before .before .r .given .1 in
-    exported-is 2 lent _ _ _ (c .before .before .before .before .before .if1 .left) (ap (λ (x : Cutoff). statusOf (cutoffInTwo x)) e ∙ sym (c .status .ensures))
-    (ap (λ (x : Cutoff). valuesIn (cutoffInTwo x) lent) e)
+    exported-is 2 lent _ _ _ (c .before .before .before .before .before .if1 .left) (ap (λ (x : Cutoff). statusOf (orZeros 2 (cutoffOutcome x))) e ∙ sym (c .status .ensures))
+    (ap (λ (x : Cutoff). valuesIn (orZeros 2 (cutoffOutcome x)) lent) e)
 
 pub wentuhoro-fragmentation-cutoff-spec : {M : Type 1} → statement M
 wentuhoro-fragmentation-cutoff-spec =

@@ -1,7 +1,7 @@
 use mathlib.Core.Path.{sym, ap, _∙_}
 use Rattle.address.specs.declared.Unpacked.{Unpacked}
-use Rattle.exports_status.specs.Status.{statusOf, valuesIn}
-use Rattle.exports.specs.Leaves.{unpackedInThree}
+use Rattle.address.specs.Outcomes.{unpackedOutcome}
+use Rattle.exports_status.specs.Status.{statusOf, valuesIn, orZeros}
 use Rattle.exports.proofs.Laws.{exported-short, exported-is}
 use Rattle.exports.proofs.leaves.wentuhoro_unpack.Statement.{statement}
 use Rattle.exports.proofs.leaves.wentuhoro_unpack.Tie as tie
@@ -38,8 +38,8 @@ returns-2 : tie.Need-returns-2
 returns-2 c =
     let lent = c .before .before .before .before .before .before .before .before .before .before .args .address .now in
     let e = sym (c .before .before .before .before .before .before .before .unpack .ensures) ∙ c .before .before .before .before .before .a .given .1 in
-    exported-is 3 lent _ _ _ (c .before .before .before .before .before .before .before .before .if1 .left) (ap (λ (x : Unpacked). statusOf (unpackedInThree x)) e)
-    (ap (λ (x : Unpacked). valuesIn (unpackedInThree x) lent) e ∙ sym (c .before .before .three .ensures))
+    exported-is 3 lent _ _ _ (c .before .before .before .before .before .before .before .before .if1 .left) (ap (λ (x : Unpacked). statusOf (orZeros 3 (unpackedOutcome x))) e)
+    (ap (λ (x : Unpacked). valuesIn (orZeros 3 (unpackedOutcome x)) lent) e ∙ sym (c .before .before .three .ensures))
 
 same-length-2 : tie.Need-same-length-2
 same-length-2 c = search
@@ -48,15 +48,15 @@ returns-3 : tie.Need-returns-3
 returns-3 c =
     let lent = c .before .before .before .before .before .before .before .before .before .args .address .now in
     let e = sym (c .before .before .before .before .before .before .unpack .ensures) ∙ c .before .before .before .before .enum-told .given .1 in
-    exported-is 3 lent _ _ _ (c .before .before .before .before .before .before .before .if1 .left) (ap (λ (x : Unpacked). statusOf (unpackedInThree x)) e)
-    (ap (λ (x : Unpacked). valuesIn (unpackedInThree x) lent) e ∙ sym (c .before .before .three2 .ensures))
+    exported-is 3 lent _ _ _ (c .before .before .before .before .before .before .before .if1 .left) (ap (λ (x : Unpacked). statusOf (orZeros 3 (unpackedOutcome x))) e)
+    (ap (λ (x : Unpacked). valuesIn (orZeros 3 (unpackedOutcome x)) lent) e ∙ sym (c .before .before .three2 .ensures))
 
 returns-4 : tie.Need-returns-4
 returns-4 c =
     let lent = c .before .before .before .before .before .before .before .args .address .now in
     let e = sym (c .before .before .before .before .unpack .ensures) ∙ c .before .before .r .given .1 in
-    exported-is 3 lent _ _ _ (c .before .before .before .before .before .if1 .left) (ap (λ (x : Unpacked). statusOf (unpackedInThree x)) e ∙ sym (c .status .ensures))
-    (ap (λ (x : Unpacked). valuesIn (unpackedInThree x) lent) e)
+    exported-is 3 lent _ _ _ (c .before .before .before .before .before .if1 .left) (ap (λ (x : Unpacked). statusOf (orZeros 3 (unpackedOutcome x))) e ∙ sym (c .status .ensures))
+    (ap (λ (x : Unpacked). valuesIn (orZeros 3 (unpackedOutcome x)) lent) e)
 
 pub wentuhoro-unpack-spec : {M : Type 1} → statement M
 wentuhoro-unpack-spec =

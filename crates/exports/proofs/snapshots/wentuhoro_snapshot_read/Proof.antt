@@ -1,6 +1,6 @@
 use mathlib.Core.Path.{refl, sym, ap, _∙_}
 use Rattle.snapshot_lists.specs.Lists.{ReadInto}
-use Rattle.exports.specs.Snapshots.{takenInOne}
+use Rattle.snapshot_lists.specs.Outcomes.{takenOutcome}
 use Rattle.exports.proofs.Laws.{exported-short, said-exported, whereFits-fits, whereFits-short, one-word}
 use borrow.Author.Needs.{needs}
 use Rattle.exports.proofs.snapshots.wentuhoro_snapshot_read.Statement.{statement}
@@ -44,7 +44,7 @@ returns-2 c =
     let lent = c .before .before .before .before .before .before .before .before .before .before .before .before .before .before .before .before .before .before .before .args .rows .now in
     let h = c .before .before .before .before .before .before .before .before .before .before .before .before .before .if1 .left in
     let e = c .before .before .before .before .before .before .before .before .before .read .ensures in
-    (said-exported takenInOne _ _ _ (ap (λ (t : ReadInto). takenInOne (t .answer)) e) (c .before .n .given .1) 1 lent _ _ h refl (one-word lent _ h), (ap (λ (t : ReadInto). t .ids) e ∙ whereFits-fits 1 lent _ _ h, (ap (λ (t : ReadInto). t .locations) e ∙ whereFits-fits 1 lent _ _ h, ap (λ (t : ReadInto). t .carried) e ∙ whereFits-fits 1 lent _ _ h)))
+    (said-exported takenOutcome _ _ _ (ap (λ (t : ReadInto). takenOutcome (t .answer)) e) (c .before .n .given .1) 1 lent _ _ h refl (one-word lent _ h), (ap (λ (t : ReadInto). t .ids) e ∙ whereFits-fits 1 lent _ _ h, (ap (λ (t : ReadInto). t .locations) e ∙ whereFits-fits 1 lent _ _ h, ap (λ (t : ReadInto). t .carried) e ∙ whereFits-fits 1 lent _ _ h)))
 
 same-length-5 : tie.Need-same-length-5
 same-length-5 c = search needs
@@ -60,7 +60,7 @@ returns-3 c =
     let lent = c .before .before .before .before .before .before .before .before .before .before .before .before .before .before .before .before .before .before .before .before .args .rows .now in
     let h = c .before .before .before .before .before .before .before .before .before .before .before .before .before .before .if1 .left in
     let e = c .before .before .before .before .before .before .before .before .before .before .read .ensures in
-    (said-exported takenInOne _ _ _ (ap (λ (t : ReadInto). takenInOne (t .answer)) e) (c .before .before .r .given .1) 1 lent _ _ h (sym (c .status .ensures)) refl, (ap (λ (t : ReadInto). t .ids) e ∙ whereFits-fits 1 lent _ _ h, (ap (λ (t : ReadInto). t .locations) e ∙ whereFits-fits 1 lent _ _ h, ap (λ (t : ReadInto). t .carried) e ∙ whereFits-fits 1 lent _ _ h)))
+    (said-exported takenOutcome _ _ _ (ap (λ (t : ReadInto). takenOutcome (t .answer)) e) (c .before .before .r .given .1) 1 lent _ _ h (sym (c .status .ensures)) refl, (ap (λ (t : ReadInto). t .ids) e ∙ whereFits-fits 1 lent _ _ h, (ap (λ (t : ReadInto). t .locations) e ∙ whereFits-fits 1 lent _ _ h, ap (λ (t : ReadInto). t .carried) e ∙ whereFits-fits 1 lent _ _ h)))
 
 pub wentuhoro-snapshot-read-spec : {M : Type 1} → statement M
 wentuhoro-snapshot-read-spec =

@@ -1,7 +1,7 @@
 use mathlib.Core.Path.{sym, ap, _∙_}
 use Rattle.snapshot.specs.declared.Step.{Step}
-use Rattle.exports_status.specs.Status.{statusOf, valuesIn}
-use Rattle.exports.specs.Snapshots.{stepInEight}
+use Rattle.snapshot.specs.Outcomes.{stepOutcome}
+use Rattle.exports_status.specs.Status.{statusOf, valuesIn, orZeros}
 use Rattle.exports.proofs.Laws.{exported-short, exported-is}
 use Rattle.exports.proofs.snapshots.wentuhoro_snapshot_step.Statement.{statement}
 use Rattle.exports.proofs.snapshots.wentuhoro_snapshot_step.Tie as tie
@@ -38,8 +38,8 @@ returns-2 : tie.Need-returns-2
 returns-2 c =
     let lent = c .before .before .before .before .before .before .before .before .before .before .before .args .values .now in
     let e = sym (c .before .before .before .before .before .before .before .step .ensures) ∙ c .before .before .before .before .before .found .given .1 in
-    exported-is 8 lent _ _ _ (c .before .before .before .before .before .before .before .before .if1 .left) (ap (λ (x : Step). statusOf (stepInEight x)) e)
-    (ap (λ (x : Step). valuesIn (stepInEight x) lent) e ∙ sym (c .before .before .eight .ensures))
+    exported-is 8 lent _ _ _ (c .before .before .before .before .before .before .before .before .if1 .left) (ap (λ (x : Step). statusOf (orZeros 8 (stepOutcome x))) e)
+    (ap (λ (x : Step). valuesIn (orZeros 8 (stepOutcome x)) lent) e ∙ sym (c .before .before .eight .ensures))
 
 same-length-2 : tie.Need-same-length-2
 same-length-2 c = search
@@ -48,15 +48,15 @@ returns-3 : tie.Need-returns-3
 returns-3 c =
     let lent = c .before .before .before .before .before .before .before .before .before .before .args .values .now in
     let e = sym (c .before .before .before .before .before .before .step .ensures) ∙ c .before .before .before .before .enum-told .given .1 in
-    exported-is 8 lent _ _ _ (c .before .before .before .before .before .before .before .if1 .left) (ap (λ (x : Step). statusOf (stepInEight x)) e)
-    (ap (λ (x : Step). valuesIn (stepInEight x) lent) e ∙ sym (c .before .before .eight2 .ensures))
+    exported-is 8 lent _ _ _ (c .before .before .before .before .before .before .before .if1 .left) (ap (λ (x : Step). statusOf (orZeros 8 (stepOutcome x))) e)
+    (ap (λ (x : Step). valuesIn (orZeros 8 (stepOutcome x)) lent) e ∙ sym (c .before .before .eight2 .ensures))
 
 returns-4 : tie.Need-returns-4
 returns-4 c =
     let lent = c .before .before .before .before .before .before .before .before .args .values .now in
     let e = sym (c .before .before .before .before .step .ensures) ∙ c .before .before .r .given .1 in
-    exported-is 8 lent _ _ _ (c .before .before .before .before .before .if1 .left) (ap (λ (x : Step). statusOf (stepInEight x)) e ∙ sym (c .status .ensures))
-    (ap (λ (x : Step). valuesIn (stepInEight x) lent) e)
+    exported-is 8 lent _ _ _ (c .before .before .before .before .before .if1 .left) (ap (λ (x : Step). statusOf (orZeros 8 (stepOutcome x))) e ∙ sym (c .status .ensures))
+    (ap (λ (x : Step). valuesIn (orZeros 8 (stepOutcome x)) lent) e)
 
 pub wentuhoro-snapshot-step-spec : {M : Type 1} → statement M
 wentuhoro-snapshot-step-spec =
