@@ -1,3 +1,4 @@
 pub mod LawsCut
 pub mod LawsCutoff
 pub mod Cases
+pub mod Outcomes

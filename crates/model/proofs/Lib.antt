@@ -23,3 +23,4 @@ pub mod Read
 pub mod Lent
 pub mod Snapshots
 pub mod Keyed
+pub mod Outcomes

@@ -1,2 +1,3 @@
 pub mod LawsNewId
 pub mod LawsCounts
+pub mod Outcomes

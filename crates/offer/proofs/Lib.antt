@@ -2,3 +2,4 @@ pub mod LawsUpdates
 pub mod LawsRoom
 pub mod LawsPlaces
 pub mod LawsOffer
+pub mod Outcomes

@@ -1,3 +1,4 @@
 pub mod LawsRows
 pub mod LawsBlocks
 pub mod LawsRead
+pub mod Outcomes
