@@ -214,15 +214,15 @@ uint64_t wentuhoro_lookup(size_t ids, size_t slots, const uint8_t *id_marks, siz
                           size_t owners_len, const uint64_t *tallies, size_t tallies_len, const uint8_t *carried, size_t carried_len,
                           uint64_t id, uint64_t *location, size_t location_len, uint8_t *row, size_t row_len);
 
-/* Takes the smallest free slot for each Store of a batch, in list order, and keeps the batch. Update i stores an object of lengths[i]
- * bytes as update_ids[i] where stores[i], whose row carries entry i of update_carried, a struct wentuhoro_carried, else it frees that id, and
- * that entry is not looked at. All five lists have one row an update; placed gets the packed locations, 0 for a Free. Writes slot_marks,
- * batch, tallies, carried and placed.
+/* Takes the smallest free slot for each Store of a batch, in list order, and keeps the batch. In stores 0 frees, any other byte stores:
+ * where stores[i] is not 0, update i stores an object of lengths[i] bytes as update_ids[i], whose row carries entry i of update_carried, a
+ * struct wentuhoro_carried; where it is 0, it frees that id, and that entry is not looked at. All five lists have one row an update; placed
+ * gets the packed locations, 0 for a Free. Writes slot_marks, batch, tallies, carried and placed.
  * Refuses: 1, 11, 15, then for each update 8, 9, 21, 2, 13, then 10 with the lowest slab that has too few free slots. */
 uint64_t wentuhoro_offer(size_t ids, size_t slots, const uint8_t *id_marks, size_t id_marks_len, const uint64_t *locations,
                          size_t locations_len, uint8_t *slot_marks, size_t slot_marks_len, const uint64_t *owners, size_t owners_len,
                          uint64_t *batch, size_t batch_len, uint64_t *tallies, size_t tallies_len, uint8_t *carried, size_t carried_len,
-                         const uint64_t *update_ids, size_t update_ids_len, const bool *stores, size_t stores_len,
+                         const uint64_t *update_ids, size_t update_ids_len, const uint8_t *stores, size_t stores_len,
                          const uint64_t *lengths, size_t lengths_len, const uint8_t *update_carried, size_t update_carried_len,
                          uint64_t *placed, size_t placed_len);
 
@@ -407,7 +407,7 @@ static inline uint64_t wentuhoro_store_lookup(const struct wentuhoro_store *s, u
                             wentuhoro_kept_bytes_mut(carried), wentuhoro_carried_len(1));
 }
 
-static inline uint64_t wentuhoro_store_offer(struct wentuhoro_store *s, size_t updates, const uint64_t *update_ids, const bool *stores,
+static inline uint64_t wentuhoro_store_offer(struct wentuhoro_store *s, size_t updates, const uint64_t *update_ids, const uint8_t *stores,
                                              const uint64_t *lengths, const struct wentuhoro_carried *update_carried, uint64_t *placed) {
     return wentuhoro_offer(s->ids, s->slots, s->id_marks, s->ids, s->locations, s->ids, s->slot_marks, wentuhoro_all_slots(s->slots),
                            s->owners, wentuhoro_all_slots(s->slots), s->batch, WENTUHORO_BATCH_WORDS, s->tallies, WENTUHORO_TALLY_WORDS,

@@ -39,7 +39,7 @@ static void write_and_read(void) {
 
 /* A key of 65 bytes is refused, and nothing is stored. */
 static void too_long(struct wentuhoro_store *store, uint64_t id) {
-    const bool stores = true;
+    const uint8_t stores = 1;
     const uint64_t length = 3;
     uint8_t key[WENTUHORO_MOST_KEY + 1] = {0};
     uint64_t placed;
@@ -56,11 +56,11 @@ int main(void) {
 
     granted("fresh", wentuhoro_store_fresh(&store));
     uint64_t ids[OBJECTS], lengths[OBJECTS], placed[OBJECTS];
-    bool stores[OBJECTS];
+    uint8_t stores[OBJECTS];
     struct wentuhoro_carried carried[OBJECTS];
     for (size_t i = 0; i < OBJECTS; i++) {
         granted("new_id", wentuhoro_store_new_id(&store, &ids[i]));
-        stores[i] = true;
+        stores[i] = 1;
         lengths[i] = 3;
         const uint8_t key[] = {'f', 'a', 'c', 'e', '/', (uint8_t)('1' + i)};
         carried[i] = wentuhoro_carried_of(7, key, sizeof key);
@@ -80,7 +80,7 @@ int main(void) {
     expected(memcmp(&found, &rows[6], sizeof found) == 0, "what is found is the table's own row");
 
     const uint64_t freed[] = {1, 2, 3, 5, 7};
-    const bool none[5] = {false, false, false, false, false};
+    const uint8_t none[5] = {0, 0, 0, 0, 0};
     const uint64_t zeros[5] = {0, 0, 0, 0, 0};
     granted("offer", wentuhoro_store_offer(&store, 5, freed, none, zeros, carried, placed));
     granted("commit", wentuhoro_store_commit(&store));

@@ -20,11 +20,11 @@ static void granted(const char *call, uint64_t status) {
 
 static void store_objects(struct wentuhoro_store *store) {
     uint64_t ids[OBJECTS], lengths[OBJECTS], placed[OBJECTS];
-    bool stores[OBJECTS];
+    uint8_t stores[OBJECTS];
     struct wentuhoro_carried carried[OBJECTS];
     for (size_t i = 0; i < OBJECTS; i++) {
         granted("new_id", wentuhoro_store_new_id(store, &ids[i]));
-        stores[i] = true;
+        stores[i] = 1;
         lengths[i] = 40 * (i % 4);
         const uint8_t key[WENTUHORO_MOST_KEY] = {'p', 'a', 'g', 'e', '/', (uint8_t)('a' + i % 26), (uint8_t)('0' + i / 26), '/', (uint8_t)(0xF0 + i)};
         /* None, one byte, and so on up to the most; from nine bytes on the last of those above is among them, and is no text. */
@@ -37,7 +37,7 @@ static void store_objects(struct wentuhoro_store *store) {
     size_t freed = 0;
     for (uint64_t id = 4; id <= OBJECTS; id += 4) {
         ids[freed] = id;
-        stores[freed++] = false;
+        stores[freed++] = 0;
     }
     granted("offer", wentuhoro_store_offer(store, freed, ids, stores, lengths, carried, placed));
     granted("commit", wentuhoro_store_commit(store));

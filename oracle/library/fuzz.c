@@ -336,8 +336,7 @@ static uint64_t store_call(enum call call) {
         for (size_t i = 0; i < c->length; i++) words(c)[i] = ONE_OF(3, 3, 59, 60, UINT64_C(17179869172), UINT64_C(17179869173), UINT64_MAX);
         fill_brought(d);
         keep_before();
-        return wentuhoro_offer(ids, slots, B(im), P(lo), B(sm), P(ow), P(ba), P(ta), B(ca), P(a), (const bool *)b->at, b->length, P(c),
-                               B(d), P(e));
+        return wentuhoro_offer(ids, slots, B(im), P(lo), B(sm), P(ow), P(ba), P(ta), B(ca), P(a), B(b), P(c), B(d), P(e));
     case COMMIT:
         keep_before();
         return wentuhoro_commit(ids, slots, B(im), P(lo), B(sm), P(ow), P(ba), P(ta), B(ca));

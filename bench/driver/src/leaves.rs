@@ -93,7 +93,7 @@ const NO_SLAB: u8 = 79;
 fn walked(batch: &Batch) -> [u8; BATCH] {
     let mut slabs = [NO_SLAB; BATCH];
     for ((slab, store), length) in slabs.iter_mut().zip(&batch.stores).zip(&batch.lengths) {
-        if *store {
+        if *store != 0 {
             *slab = probe::class(*length);
         }
     }
@@ -107,7 +107,7 @@ fn classes_in_an_offer(rounds: u32, picture: &mut Picture) {
     for (name, most) in SIZES {
         let lengths = spread(most);
         let mut stores: Vec<Batch> = lengths.chunks(BATCH).map(|lengths| Batch::stores(0..BATCH as u64, |at| lengths[at])).collect();
-        let mut frees: Vec<Batch> = stores.iter().map(|batch| Batch { stores: vec![false; BATCH], ..batch.clone() }).collect();
+        let mut frees: Vec<Batch> = stores.iter().map(|batch| Batch { stores: vec![0; BATCH], ..batch.clone() }).collect();
         let (stores_again, frees_again) = (stores.clone(), frees.clone());
         let mut a = |calls| (0..calls).for_each(|_| stores.iter_mut().for_each(|batch| one.offer_refused(black_box(batch))));
         let mut b = |calls| (0..calls).for_each(|_| frees.iter_mut().for_each(|batch| other.offer_refused(black_box(batch))));

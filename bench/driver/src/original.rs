@@ -34,7 +34,7 @@ impl Original {
 
     pub fn offer(&mut self, batch: &mut Batch) {
         for at in 0..batch.ids.len() {
-            if batch.stores[at] {
+            if batch.stores[at] != 0 {
                 let location = NonZeroU64::from(self.mapper.allocate_slab_slot(probe::class(batch.lengths[at])));
                 batch.placed[at] = location.get();
                 self.kept.push(row(batch.ids[at], location.get()));

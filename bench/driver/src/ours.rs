@@ -37,7 +37,8 @@ pub fn brought(collection: u64, length: usize) -> [u8; CARRIED_WIDTH] {
 #[derive(Clone)]
 pub struct Batch {
     pub ids: Vec<u64>,
-    pub stores: Vec<bool>,
+    /// 1 for a Store, 0 for a Free.
+    pub stores: Vec<u8>,
     pub lengths: Vec<u64>,
     pub carried: Vec<u8>,
     pub placed: Vec<u64>,
@@ -48,7 +49,7 @@ impl Batch {
         let ids: Vec<u64> = ids.into_iter().collect();
         let count = ids.len();
         let carried = ids.iter().flat_map(|id| brought(*id, 0)).collect();
-        Batch { ids, stores: vec![true; count], lengths: (0..count).map(length).collect(), carried, placed: vec![0; count] }
+        Batch { ids, stores: vec![1; count], lengths: (0..count).map(length).collect(), carried, placed: vec![0; count] }
     }
 
     /// The same, each object with a key of so many bytes.
@@ -58,7 +59,7 @@ impl Batch {
 
     pub fn frees(ids: impl IntoIterator<Item = u64>) -> Batch {
         let batch = Batch::stores(ids, |_| 0);
-        Batch { stores: vec![false; batch.ids.len()], ..batch }
+        Batch { stores: vec![0; batch.ids.len()], ..batch }
     }
 }
 

@@ -93,7 +93,7 @@ extern "C" {
         row: *mut u8,
         row_len: usize,
     ) -> u64;
-    /// The bytes of `stores` are 0 or 1.
+    /// In `stores` 0 frees, any other byte stores.
     pub fn wentuhoro_offer(
         ids: usize,
         slots: usize,
@@ -113,7 +113,7 @@ extern "C" {
         carried_len: usize,
         update_ids: *const u64,
         update_ids_len: usize,
-        stores: *const bool,
+        stores: *const u8,
         stores_len: usize,
         lengths: *const u64,
         lengths_len: usize,

@@ -335,7 +335,7 @@ impl Store {
     pub fn offer(&mut self, updates: &[Update]) -> Result<Vec<Option<SlabAddress>>, Refusal> {
         let count = updates.len();
         let ids: Vec<u64> = updates.iter().map(|update| update.id()).collect();
-        let stores: Vec<bool> = updates.iter().map(|update| matches!(update, Update::Store { .. })).collect();
+        let stores: Vec<u8> = updates.iter().map(|update| matches!(update, Update::Store { .. }).into()).collect();
         let lengths: Vec<u64> = updates.iter().map(|update| update.length()).collect();
         let carried = Carried::brought(updates.iter().map(|update| update.carried()));
         let mut placed = vec![0; count];

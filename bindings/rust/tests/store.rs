@@ -211,6 +211,7 @@ fn keys_follow_the_batch() {
 }
 
 /// The tables of a store of ids 1 and 2 and one slot in each slab, to lend to the exported calls themselves what the crate does not say.
+#[derive(Clone)]
 struct Lent {
     id_marks: [u8; 3],
     locations: [u64; 3],
@@ -251,9 +252,9 @@ impl Lent {
     }
 
     /// One update of id 2, an object of 100 bytes where it is stored.
-    fn offer(&mut self, is_store: bool, row: &[u8]) -> u64 {
+    fn offer(&mut self, byte: u8, row: &[u8]) -> u64 {
         let (row_len, mut placed) = (row.len(), 0);
-        lend!(self, wentuhoro_offer, [2].as_ptr(), 1, [is_store].as_ptr(), 1, [100].as_ptr(), 1, row.as_ptr(), row_len, &mut placed, 1)
+        lend!(self, wentuhoro_offer, [2].as_ptr(), 1, [byte].as_ptr(), 1, [100].as_ptr(), 1, row.as_ptr(), row_len, &mut placed, 1)
     }
 
     fn commit(&mut self) -> u64 {
@@ -282,12 +283,24 @@ fn keys_that_no_slice_can_say() {
         assert_eq!(lent.carried, vec![9; ROWS * ROW]);
         assert_eq!(lent.rebuild(&brought(64)), 0);
         let before = lent.carried.clone();
-        assert_eq!(lent.offer(true, &brought(length)), 21, "{length}");
+        assert_eq!(lent.offer(1, &brought(length)), 21, "{length}");
         assert_eq!(lent.carried, before);
         // A Free's is not looked at, and keeps zeros, also where the batch before kept a key.
-        assert_eq!((lent.offer(true, &brought(64)), lent.commit()), (0, 0));
-        assert_eq!((lent.offer(false, &brought(length)), lent.row(3)), (0, &[0; ROW][..]), "{length}");
+        assert_eq!((lent.offer(1, &brought(64)), lent.commit()), (0, 0));
+        assert_eq!((lent.offer(0, &brought(length)), lent.row(3)), (0, &[0; ROW][..]), "{length}");
         assert_eq!((lent.commit(), lent.row(2)), (0, &[0; ROW][..]));
+    }
+}
+
+#[test]
+fn any_byte_but_0_stores() {
+    for byte in 0..=u8::MAX {
+        let mut lent = Lent::new();
+        assert_eq!(lent.rebuild(&brought(1)), 0);
+        let (refused, row) = if byte == 0 { (0, vec![0; ROW]) } else { (21, kept(2)) };
+        assert_eq!(lent.clone().offer(byte, &brought(65)), refused, "{byte}");
+        assert_eq!((lent.offer(byte, &brought(2)), lent.row(3)), (0, &row[..]), "{byte}");
+        assert_eq!((lent.commit(), lent.row(2)), (0, &row[..]), "{byte}");
     }
 }
 
@@ -298,7 +311,7 @@ fn behind_a_key_nothing_is_stored() {
         assert_eq!((lent.rebuild(&brought(length as u64)), lent.row(2)), (0, &kept(length)[..]));
         assert!(lent.carried[..2 * ROW].iter().chain(&lent.carried[3 * ROW..]).all(|byte| *byte == 0));
         for other in [64, 0, 63, 1] {
-            assert_eq!((lent.offer(true, &brought(other as u64)), lent.row(3)), (0, &kept(other)[..]));
+            assert_eq!((lent.offer(1, &brought(other as u64)), lent.row(3)), (0, &kept(other)[..]));
             assert_eq!((lent.commit(), lent.row(2)), (0, &kept(other)[..]));
             assert_eq!(lent.rebuild(&brought(length as u64)), 0);
         }
@@ -312,9 +325,9 @@ fn rows_have_one_width() {
         let mut lent = Lent::new();
         assert_eq!(lent.rebuild(&vec![0; width]), 1, "{width}");
         assert_eq!(lent.rebuild(&brought(0)), 0);
-        assert_eq!(lent.offer(true, &vec![0; width]), 1, "{width}");
+        assert_eq!(lent.offer(1, &vec![0; width]), 1, "{width}");
         lent.carried = vec![0; ROWS * width];
-        assert_eq!((lent.rebuild(&brought(0)), lent.offer(true, &brought(0)), lent.commit()), (1, 1, 1), "{width}");
+        assert_eq!((lent.rebuild(&brought(0)), lent.offer(1, &brought(0)), lent.commit()), (1, 1, 1), "{width}");
     }
 }
 

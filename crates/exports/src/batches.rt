@@ -1,5 +1,6 @@
 // Offer, commit, abandon and release.
 ghost use mathlib.Core.Path.{_≡_};
+ghost use Rattle.keys.specs.Keys.{storesOf};
 ghost use Rattle.model.specs.Store.{offer, commit, abandon, release};
 ghost use Rattle.model.specs.Memory.{Memory};
 ghost use Rattle.model.specs.Lent.{lentTo, answered, leaves};
@@ -9,7 +10,8 @@ use exports_status::status;
 use refusal::Finished;
 use tables::Capacities;
 
-// Takes a slot for each Store of a batch, and keeps what each row is to carry, one row after the other. `placed` has as many rows as there are updates: their locations, 0 for a Free.
+// Takes a slot for each Store of a batch, and keeps what each row is to carry, one row after the other. Of `stores` a byte of 0 is a Free, any other a Store.
+// `placed` has as many rows as there are updates: their locations, 0 for a Free.
 #[no_mangle]
 pub extern "C" fn wentuhoro_offer(
     ids: usize,
@@ -22,14 +24,14 @@ pub extern "C" fn wentuhoro_offer(
     tallies: &mut [u64],
     carried: &mut [u8],
     update_ids: &[u64],
-    stores: &[bool],
+    stores: &[u8],
     lengths: &[u64],
     update_carried: &[u8],
     placed: &mut [u64],
 ) -> u64
     ensures { λ r. ⌜ r ≡ statusOf (outcomeOf (answered (offer (record {
       ids = now («update_ids» .entry);
-      stores = now (stores .entry);
+      stores = storesOf (now (stores .entry));
       lengths = now (lengths .entry);
       carried = now («update_carried» .entry);
       placed = now (placed .entry);
@@ -43,7 +45,7 @@ pub extern "C" fn wentuhoro_offer(
         (now (carried .entry)))) ⌝ }
     ensures { λ _. ⌜ _≡_ {A = Memory} (lentTo (offer (record {
       ids = now («update_ids» .entry);
-      stores = now (stores .entry);
+      stores = storesOf (now (stores .entry));
       lengths = now (lengths .entry);
       carried = now («update_carried» .entry);
       placed = now (placed .entry);
@@ -57,7 +59,7 @@ pub extern "C" fn wentuhoro_offer(
         (now (carried .exit)))
         (leaves (offer (record {
           ids = now («update_ids» .entry);
-          stores = now (stores .entry);
+          stores = storesOf (now (stores .entry));
           lengths = now (lengths .entry);
           carried = now («update_carried» .entry);
           placed = now (placed .entry);
@@ -71,7 +73,7 @@ pub extern "C" fn wentuhoro_offer(
         (now (carried .entry))) ⌝ }
     ensures { λ _. ⌜ now (placed .exit) ≡ listIn 0 (answered (offer (record {
       ids = now («update_ids» .entry);
-      stores = now (stores .entry);
+      stores = storesOf (now (stores .entry));
       lengths = now (lengths .entry);
       carried = now («update_carried» .entry);
       placed = now (placed .entry);

@@ -6,7 +6,8 @@ use Prim.Native.Nat.{ℕ, zero, suc, _+_, _-_, _*_, _≤_, _<_, min}
 use native.Mathlib.Nat.{suc-mul}
 use native.Mathlib.Omega.{arith}
 use lib.Dec.{leb}
-use lib.ListN.{length, take, drop, replicate, length-append, length-take, length-drop, length-replicate, take-append-drop, List·getD-eq-default}
+use lib.ListN.{length, getD, take, drop, replicate, length-append, length-take, length-drop, length-replicate, length-map, take-append-drop}
+use lib.ListN.{List·getD-eq-default, List·getD-map}
 use lib.Seq.{length-take-le, take-all, take-at, drop-at, getD-at, drop-drop, split-at}
 use borrow.Author.Tests.{leb-true, le-leb, le-ltb}
 use Rattle.list_parts.specs.Parts.{part}
@@ -16,7 +17,8 @@ use Rattle.zeros.specs.Zeros.{allZero}
 use Rattle.zeros.proofs.Laws.{allZero-replicate, replicate-allZero}
 use Rattle.carried.specs.Carried.{width}
 use Rattle.carried.proofs.Laws.{rows-first}
-use Rattle.keys.specs.Keys.{mostKey, saidLength, keyIsLong, keptLength, normal, normalOf, normalRows, allStored, keyLength, keyOf, isNormal, brought}
+use Rattle.keys.specs.Keys.{mostKey, saidLength, keyIsLong, keptLength, normal, normalOf, normalRows, isStore, storesOf, allStored}
+use Rattle.keys.specs.Keys.{keyLength, keyOf, isNormal, brought}
 
 -- ---- a row by its parts: a collection p of eight bytes, and a key
 
@@ -199,6 +201,14 @@ normal-brought-1 c l =
     normal-again c (omega arith) (omega arith)
     ∙ ap (λ x. take 8 c ++ (length x ∷ (x ++ replicate (71 - length x) 0))) e
     ∙ ap (λ x. x ++ replicate 72 0) (take-all 8 c (omega arith))
+
+-- ---- storesOf
+
+pub length-storesOf : (bs : List ℕ) → length (storesOf bs) ≡ length bs
+length-storesOf bs = length-map bs isStore
+
+pub getD-storesOf : (bs : List ℕ) (i : ℕ) → isStore (getD bs i 0) ≡ getD (storesOf bs) i false
+getD-storesOf bs i = sym (List·getD-map isStore bs i 0)
 
 -- ---- allStored
 

@@ -1,12 +1,12 @@
 -- Laws that the code's steps come to: a test of the next row, a row written over zeros, the next row kept. Assumes nothing.
-use mathlib.Core.Path.{_≡_, sym, ap, _∙_}
+use mathlib.Core.Path.{_≡_, refl, sym, ap, _∙_}
 use mathlib.Core.Bool.{Bool, true, false, cond, not, _&&_}
 use mathlib.Core.List.{List, [], _∷_, _++_, append-nil}
-use Prim.Native.Nat.{ℕ, suc, _+_, _-_, _*_, _/_, _%_, _≤_, _<_}
+use Prim.Native.Nat.{ℕ, zero, suc, _+_, _-_, _*_, _/_, _%_, _≤_, _<_}
 use native.Mathlib.Numerals.{add-one}
 use native.Mathlib.Decide.{ℕ-discrete}
 use native.Mathlib.Omega.{arith}
-use lib.Dec.{eqb, ltb}
+use lib.Dec.{eqb, ltb, eqb·suc-zero}
 use lib.ListN.{length, getD, set, take, drop, replicate, length-append, length-take, length-drop, length-set, length-replicate, length-map}
 use lib.ListN.{getD-replicate, drop-of-length-le}
 use lib.Seq.{append-snoc, drop-cons, drop-drop, take-at, drop-at, take-length, set-at, length-take-le}
@@ -18,7 +18,7 @@ use Rattle.list_parts.proofs.Ranges.{put-middle}
 use Rattle.little_endian.specs.LittleEndian.{getAt}
 use Rattle.carried.proofs.Each.{drop-zeros}
 use Rattle.carried.specs.Carried.{width, putRow, putRows, upFrom}
-use Rattle.keys.specs.Keys.{keyIsLong, keptLength, normal, normalOf, longIn, normalRows, allStored, firstMet}
+use Rattle.keys.specs.Keys.{keyIsLong, keptLength, normal, normalOf, longIn, normalRows, isStore, allStored, firstMet}
 use Rattle.keys.proofs.Laws.{length-normalOf, length-key, allStored-replicate}
 
 -- ---- the rows from row i on: the first, and the others
@@ -55,6 +55,12 @@ is-whole r b n e h = eqb-true b n (sym e ∙ not-false r h)
 
 pub when-whole : {A : Type 0} (b n : ℕ) (x y : A) → b ≡ n → x ≡ cond (eqb b n) x y
 when-whole b n x y e = sym (ap (λ t. cond t x y) (eq-eqb b n e))
+
+-- ---- the test of a byte
+
+pub not-zero : (b : ℕ) → not (eqb b 0) ≡ isStore b
+not-zero zero = refl
+not-zero (suc b) = ap not (eqb·suc-zero b)
 
 -- ---- firstMet
 
@@ -158,28 +164,29 @@ whole-part rows n i l h = length-take-le width (drop (i * width) rows) (rw (leng
 pub whole-range : (rows : List ℕ) (n i : ℕ) → length rows ≡ n * width → i < n → length (take (i * width + width - i * width) (drop (i * width) rows)) ≡ width
 whole-range rows n i l h = ap length (part-range width rows i) ∙ whole-part rows n i l h
 
-put-turn : (k : ℕ) (is : List ℕ) (ss : List Bool) (rows t u : List ℕ) (i : ℕ) → length rows ≡ length ss * width → i < length ss
-    → u ≡ putRow width t k (normalOf (getD ss i false) (take (i * width + width - i * width) (drop (i * width) rows)))
+-- s says whether row i is stored, and u is the column with it as row k
+put-turn : (k : ℕ) (is : List ℕ) (ss : List Bool) (rows t u : List ℕ) (n i : ℕ) (s : Bool) → length ss ≡ n → length rows ≡ n * width → i < n
+    → s ≡ getD ss i false → u ≡ putRow width t k (normalOf s (take (i * width + width - i * width) (drop (i * width) rows)))
     → putRows width is (normalRows (drop (i + 1) ss) (drop ((i + 1) * width) rows)) u
     ≡ putRows width (k ∷ is) (normalRows (drop i ss) (drop (i * width) rows)) t
-put-turn k is ss rows t u i l h e =
+put-turn k is ss rows t u n i s m l h f e =
     let row = normalOf (getD ss i false) (part width rows i) in
     let rest = normalRows (drop (i + 1) ss) (drop ((i + 1) * width) rows) in
-    ap (putRows width is rest) (e ∙ ap (λ x. putRow width t k (normalOf (getD ss i false) x)) (part-range width rows i))
-    ∙ sym (put-next k is row rest t (length-normalOf (getD ss i false) (part width rows i) (whole-part rows (length ss) i l h)))
-    ∙ ap (λ x. putRows width (k ∷ is) x t) (sym (normalRows-next ss rows i h))
+    ap (putRows width is rest) (e ∙ (λ j. putRow width t k (normalOf (f j) (part-range width rows i j))))
+    ∙ sym (put-next k is row rest t (length-normalOf (getD ss i false) (part width rows i) (whole-part rows n i l h)))
+    ∙ ap (λ x. putRows width (k ∷ is) x t) (sym (normalRows-next ss rows i (omega arith)))
 
 -- rows one after the other, of which row i is kept as row k
-pub keep-turn : (k : ℕ) (ss : List Bool) (rows t u : List ℕ) (i : ℕ) → length rows ≡ length ss * width → i < length ss
-    → u ≡ putRow width t k (normalOf (getD ss i false) (take (i * width + width - i * width) (drop (i * width) rows)))
-    → putRows width (upFrom (k + 1) (length ss - (i + 1))) (normalRows (drop (i + 1) ss) (drop ((i + 1) * width) rows)) u
-    ≡ putRows width (upFrom k (length ss - i)) (normalRows (drop i ss) (drop (i * width) rows)) t
+pub keep-turn : (k : ℕ) (ss : List Bool) (rows t u : List ℕ) (n i : ℕ) (s : Bool) → length ss ≡ n → length rows ≡ n * width → i < n
+    → s ≡ getD ss i false → u ≡ putRow width t k (normalOf s (take (i * width + width - i * width) (drop (i * width) rows)))
+    → putRows width (upFrom (k + 1) (n - (i + 1))) (normalRows (drop (i + 1) ss) (drop ((i + 1) * width) rows)) u
+    ≡ putRows width (upFrom k (n - i)) (normalRows (drop i ss) (drop (i * width) rows)) t
 unfolding upFrom
-keep-turn k ss rows t u i l h e =
-    let m : length ss - i ≡ suc (length ss - (i + 1)) = omega arith in
-    ap (λ x. putRows width (upFrom x (length ss - (i + 1))) (normalRows (drop (i + 1) ss) (drop ((i + 1) * width) rows)) u) (add-one k)
-    ∙ put-turn k (upFrom (suc k) (length ss - (i + 1))) ss rows t u i l h e
-    ∙ ap (λ x. putRows width (upFrom k x) (normalRows (drop i ss) (drop (i * width) rows)) t) (sym m)
+keep-turn k ss rows t u n i s m l h f e =
+    let left : n - i ≡ suc (n - (i + 1)) = omega arith in
+    ap (λ x. putRows width (upFrom x (n - (i + 1))) (normalRows (drop (i + 1) ss) (drop ((i + 1) * width) rows)) u) (add-one k)
+    ∙ put-turn k (upFrom (suc k) (n - (i + 1))) ss rows t u n i s m l h f e
+    ∙ ap (λ x. putRows width (upFrom k x) (normalRows (drop i ss) (drop (i * width) rows)) t) (sym left)
 
 pub keep-end : (k n i : ℕ) (bytes t : List ℕ) → n ≤ i → putRows width (upFrom k (n - i)) bytes t ≡ t
 unfolding putRows upFrom
@@ -194,10 +201,8 @@ put-at-turn ids rows t u i l h e =
     let ss = allStored ids in
     let n : length ss ≡ length ids = length-map ids (λ (x : ℕ). true) in
     let s : getD ss i false ≡ true = ap (λ x. getD x i false) (allStored-replicate ids) ∙ getD-replicate (length ids) i true false h in
-    let row = take (i * width + width - i * width) (drop (i * width) rows) in
     ap (λ x. putRows width (drop x ids) (normalRows (drop (i + 1) ss) (drop ((i + 1) * width) rows)) u) (add-one i)
-    ∙ put-turn (getD ids i 0) (drop (suc i) ids) ss rows t u i (l ∙ ap (λ x. x * width) (sym n)) (omega arith)
-    (e ∙ ap (λ x. putRow width t (getD ids i 0) (normalOf x row)) (sym s))
+    ∙ put-turn (getD ids i 0) (drop (suc i) ids) ss rows t u (length ids) i true n l h (sym s) e
     ∙ ap (λ x. putRows width x (normalRows (drop i ss) (drop (i * width) rows)) t) (sym (drop-cons ids i 0 h))
 
 pub put-at-end : (ids bytes t : List ℕ) (i : ℕ) → length ids ≤ i → putRows width (drop i ids) bytes t ≡ t

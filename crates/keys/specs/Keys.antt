@@ -1,9 +1,9 @@
 -- Request 2026-06: the key of a row, up to 64 bytes. A row is `width` bytes in two forms. As an offer and a rebuild bring it: the collection, the key's
 -- length in eight bytes, and 64 bytes, of which the first `length` are the key and the others are not looked at. As the store keeps it, and a
 -- snapshot of version 2 has it: the collection, the length in one byte, the key, and zeros. Assumes nothing.
-use mathlib.Core.Bool.{Bool, true, cond, _&&_}
+use mathlib.Core.Bool.{Bool, true, false, cond, _&&_}
 use mathlib.Core.List.{List, [], _∷_, _++_, map}
-use Prim.Native.Nat.{ℕ, suc, _+_, _-_, min}
+use Prim.Native.Nat.{ℕ, zero, suc, _+_, _-_, min}
 use lib.Dec.{leb, ltb}
 use lib.ListN.{length, getD, take, drop, replicate}
 use Rattle.little_endian.specs.LittleEndian.{bytesOf, getAt}
@@ -44,6 +44,15 @@ normalOf s row = cond s (normal row) (replicate width 0)
 unfoldable pub normalRows : List Bool → List ℕ → List ℕ
 normalRows [] bytes = []
 normalRows (s ∷ ss) bytes = normalOf s (take width bytes) ++ normalRows ss (drop width bytes)
+
+-- whether an update is a Store, by its byte: 0 frees, any other stores
+abbrev pub isStore : ℕ → Bool
+isStore zero = false
+isStore (suc b) = true
+
+-- the updates of an offer, each by its byte
+abbrev pub storesOf : List ℕ → List Bool
+storesOf bs = map isStore bs
 
 -- each row of a rebuild is stored
 abbrev pub allStored : List ℕ → List Bool

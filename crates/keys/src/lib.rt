@@ -1,7 +1,8 @@
 // The key of a row (request 2026-06), up to MOST_KEY bytes. A row is brought with the key's length in eight bytes, and kept with the length in one and
 // zeros behind the key.
 //
-//     let i = keys::first_long(stores, rows);            // an offer: the first update to store whose key is too long
+//     let b = keys::is_store(stores[i]);                 // an offer's updates come with a byte each
+//     let i = keys::first_long(stores, rows);            // the first update to store whose key is too long
 //     let i = keys::first_long_row(ids.len(), rows);     // a rebuild, where each row is stored
 //     keys::keep(column, first, stores, rows);           // an offer keeps its rows from row `first` on
 //     keys::put_at(column, ids, rows);                   // a rebuild, each row at its id's
@@ -13,7 +14,7 @@ ghost use Prim.Native.Nat.{_*_};
 ghost use lib.Dec.{eqb};
 ghost use lib.ListN.{length, replicate};
 ghost use Rattle.carried.specs.Carried.{width, putRow, putRows, upFrom};
-ghost use Rattle.keys.specs.Keys.{keyIsLong, keptLength, normal, normalOf, longIn, normalRows, allStored, firstMet};
+ghost use Rattle.keys.specs.Keys.{keyIsLong, keptLength, normal, normalOf, longIn, normalRows, isStore, storesOf, allStored, firstMet};
 use carried::WIDTH;
 
 // How many bytes a key has at the most.
@@ -36,6 +37,13 @@ fn whole(rows: usize, bytes: usize) -> bool
     bytes / WIDTH == rows
 }
 
+// Whether an update is a Store: 0 frees, any other byte stores, so that every byte has an answer.
+pub fn is_store(byte: u8) -> bool
+    ensures { λ r. ⌜ r ≡ isStore byte ⌝ }
+{
+    byte != 0
+}
+
 // Whether a row is to be stored and its key is too long.
 fn is_long(store: bool, row: &[u8]) -> bool
     ensures { λ r. ⌜ r ≡ (store && keyIsLong (now (row .entry))) ⌝ }
@@ -48,10 +56,10 @@ fn is_long(store: bool, row: &[u8]) -> bool
 }
 
 // The first row to be stored whose key is too long; as many as there are where none is.
-pub fn first_long(stores: &[bool], rows: &[u8]) -> usize
+pub fn first_long(stores: &[u8], rows: &[u8]) -> usize
     ensures { λ r. ⌜ r
         ≡ cond (eqb (length (now (rows .entry))) (length (now (stores .entry)) * width))
-        (firstMet (longIn (now (stores .entry)) (now (rows .entry))))
+        (firstMet (longIn (storesOf (now (stores .entry))) (now (rows .entry))))
         (length (now (stores .entry))) ⌝ }
 {
     if !whole(stores.len(), rows.len()) {
@@ -61,7 +69,7 @@ pub fn first_long(stores: &[bool], rows: &[u8]) -> usize
     while i < stores.len() {
         let start = i * WIDTH;
         let end = start + WIDTH;
-        if is_long(stores[i], &rows[start..end]) {
+        if is_long(is_store(stores[i]), &rows[start..end]) {
             return i;
         }
         i += 1;
@@ -128,10 +136,11 @@ fn keep_row(column: &mut [u8], index: usize, store: bool, row: &[u8])
 }
 
 // Keeps rows one after the other, from row `first` on. Those for which the column has no row are not kept.
-pub fn keep(column: &mut [u8], first: usize, stores: &[bool], rows: &[u8])
+pub fn keep(column: &mut [u8], first: usize, stores: &[u8], rows: &[u8])
     ensures { λ _. ⌜ now (column .exit)
         ≡ cond (eqb (length (now (rows .entry))) (length (now (stores .entry)) * width))
-        (putRows width (upFrom first (length (now (stores .entry)))) (normalRows (now (stores .entry)) (now (rows .entry))) (now (column .entry)))
+        (putRows width (upFrom first (length (now (stores .entry)))) (normalRows (storesOf (now (stores .entry))) (now (rows .entry)))
+        (now (column .entry)))
         (now (column .entry)) ⌝ }
 {
     if !whole(stores.len(), rows.len()) {
@@ -146,7 +155,7 @@ pub fn keep(column: &mut [u8], first: usize, stores: &[bool], rows: &[u8])
         }
         let start = i * WIDTH;
         let end = start + WIDTH;
-        keep_row(column, index, stores[i], &rows[start..end]);
+        keep_row(column, index, is_store(stores[i]), &rows[start..end]);
         index += 1;
         i += 1;
     }

@@ -16,7 +16,8 @@ use Rattle.refusal.specs.declared.Judged.{Judged}
 use Rattle.refusal.specs.declared.Judged.the-variants as J
 use Rattle.refusal.proofs.Tests.{and-true}
 use Rattle.carried.specs.Carried.{width, putRows, upFrom}
-use Rattle.keys.specs.Keys.{normalRows}
+use Rattle.keys.specs.Keys.{longIn, normalRows, storesOf, firstMet}
+use Rattle.keys.proofs.Laws.{length-storesOf}
 use Rattle.address.specs.Address.{badSlots, slabs}
 use Rattle.model.specs.Batches.{updatesIn, updates, room, takenBy}
 use Rattle.model.specs.Outcomes.{over}
@@ -97,6 +98,18 @@ module _ (j : Judged) (k n : ℕ) where
       pub keys-before : b ≡ false → refuse keyTooLong k ≡ Keyed
       keys-before t = sym (both-refuse ∙ ap (λ x. cond x (refuse (r .number) (r .index)) (refuse keyTooLong k)) t)
 
+-- there are as many updates as bytes
+module _ (bs rows : List ℕ) where
+  -- the first key that is too long, of n updates
+  abbrev LongBy : ℕ → ℕ
+  LongBy n = cond (eqb (length rows) (n * width)) (firstMet (longIn (storesOf bs) rows)) n
+
+  pub keys-told : (v w : Verdict) (k : ℕ) → v ≡ w → k ≡ LongBy (length bs)
+      → earlier beforeKeys v (test (ltb k (length bs)) keyTooLong k) ≡ earlier beforeKeys w (keysIn (storesOf bs) rows)
+  keys-told v w k p q =
+      (λ i. earlier beforeKeys (p i) (test (ltb (q i) (length bs)) keyTooLong (q i)))
+      ∙ ap (λ n. earlier beforeKeys w (test (ltb (LongBy n) n) keyTooLong (LongBy n))) (sym (length-storesOf bs))
+
 -- ---- what an offer leaves
 module _ (m : Memory) (o : Offer) where
   pub leaves-refused : (n i : ℕ) → refusal (read m) (offer o) ≡ refuse n i
@@ -131,9 +144,12 @@ module _ (m : Memory) (o : Offer) where
   abbrev lists-long : Bool
   lists-long = asLong (o .ids) (o .stores) && asLong (o .ids) (o .lengths) && asLong (o .ids) (o .placed) && carriesFor (o .ids) (o .carried)
 
+  abbrev FitBy : ℕ → Bool
+  FitBy n = offerFits (m .ids) (m .slots) (length (m .idMarks)) (length (m .locations)) (length (m .slotMarks)) (length (m .owners)) (length (m .batch)) (length (m .tallies))
+      (length (m .carried)) (length (o .ids)) n (length (o .lengths)) (length (o .carried)) (length (o .placed))
+
   abbrev Fit : Bool
-  Fit = offerFits (m .ids) (m .slots) (length (m .idMarks)) (length (m .locations)) (length (m .slotMarks)) (length (m .owners)) (length (m .batch)) (length (m .tallies))
-      (length (m .carried)) (length (o .ids)) (length (o .stores)) (length (o .lengths)) (length (o .carried)) (length (o .placed))
+  Fit = FitBy (length (o .stores))
 
   -- the chain of tests, the first of them on lengths
   chain : refusal (read m) (offer o)
@@ -148,12 +164,12 @@ module _ (m : Memory) (o : Offer) where
       rest = test (ltb 0 (getD (m .batch) 0 0)) batchOpen 0 ⨾ test (ltb mostUpdates (length (o .ids))) tooMany 0 ⨾
           withOfferedKeys o (updates (read m) [] 0 (updatesIn o)) ⨾ room (read m .slots) (read m .slotMarks) (updatesIn o) slabs 0
 
-  -- the test of the lengths, and whether it was passed
-  pub fits-told : (f : Bool) → f ≡ Fit → not f ≡ false → Fit ≡ true
-  fits-told f e h = sym e ∙ not-false f h
+  -- the test of the lengths, with that of the updates' bytes, and whether it was passed
+  pub fits-told : (f : Bool) {n : ℕ} → n ≡ length (o .stores) → f ≡ FitBy n → not f ≡ false → Fit ≡ true
+  fits-told f p e h = sym (e ∙ ap FitBy p) ∙ not-false f h
 
-  pub fits-failed : (f : Bool) → f ≡ Fit → not f ≡ true → Fit ≡ false
-  fits-failed f e h = sym e ∙ not-true f h
+  pub fits-failed : (f : Bool) {n : ℕ} → n ≡ length (o .stores) → f ≡ FitBy n → not f ≡ true → Fit ≡ false
+  fits-failed f p e h = sym (e ∙ ap FitBy p) ∙ not-true f h
 
   pub refused-shape : Fit ≡ false → refusal (read m) (offer o) ≡ refuse wrongShape 0
   unfolding test _⨾_
@@ -176,21 +192,22 @@ module _ (m : Memory) (o : Offer) where
       let d = and-true (asLong (o .ids) (o .stores)) (asLong (o .ids) (o .lengths)) (b .0) in
       record { fit = a .0; stores = eqb-true _ _ (d .0); lengths = eqb-true _ _ (d .1); list = eqb-true _ _ (b .1); rows = eqb-true _ _ (w .1) }
 
-  -- the column with the rows that were offered, as many as there are updates
-  abbrev KeptRows : List ℕ
-  KeptRows = putRows width (upFrom (m .ids) (length (o .stores))) (normalRows (o .stores) (o .carried)) (m .carried)
+  -- the column with the rows that were offered, of n updates
+  abbrev KeptRows : ℕ → List ℕ
+  KeptRows n = putRows width (upFrom (m .ids) n) (normalRows (o .stores) (o .carried)) (m .carried)
 
-  abbrev pub Keeps : List ℕ → Type 0
-  Keeps t = t ≡ cond (eqb (length (o .carried)) (length (o .stores) * width)) KeptRows (m .carried)
+  abbrev pub Keeps : ℕ → List ℕ → Type 0
+  Keeps n t = t ≡ cond (eqb (length (o .carried)) (n * width)) (KeptRows n) (m .carried)
 
   rows-many : Fit ≡ true → length (o .carried) ≡ length (o .stores) * width
   rows-many e = let s = shaped e in s .rows ∙ ap (λ n. n * width) (sym (s .stores))
 
-  column : Fit ≡ true → (t : List ℕ) → Keeps t → t ≡ offeredColumn (m .ids) o (m .carried)
+  column : Fit ≡ true → {n : ℕ} → n ≡ length (o .stores) → (t : List ℕ) → Keeps n t → t ≡ offeredColumn (m .ids) o (m .carried)
   unfolding offeredColumn
-  column e t p =
-      p ∙ ap (λ b. cond b KeptRows (m .carried)) (eq-eqb _ _ (rows-many e))
-      ∙ ap (λ n. putRows width (upFrom (m .ids) n) (normalRows (o .stores) (o .carried)) (m .carried)) (shaped e .stores)
+  column e q t p =
+      p ∙ ap (λ n. cond (eqb (length (o .carried)) (n * width)) (KeptRows n) (m .carried)) q
+      ∙ ap (λ b. cond b (KeptRows (length (o .stores))) (m .carried)) (eq-eqb _ _ (rows-many e))
+      ∙ ap KeptRows (shaped e .stores)
 
   good : Fit ≡ true → badSlots (m .slots) ≡ false
   good e = fits-range everyTable m (shaped e .fit) .slots-good
@@ -243,10 +260,10 @@ module _ (m : Memory) (o : Offer) where
 
       pub leaves-done : (ls marks words b t : List ℕ) → refusal (read m) (offer o) ≡ ok → ls ≡ sets (o .placed) 0 (placeIn (m .slots) (slotsOf m) ks)
           → slotsIn marks words ≡ takeSlots (m .slots) (slotsOf m) (placeIn (m .slots) (slotsOf m) ks) → b ≡ set (sets (sets (m .batch) keptIdsAt (o .ids)) keptLocationsAt ls) 0 (length (o .ids) + 1)
-          → Keeps t
+          → {n : ℕ} → n ≡ length (o .stores) → Keeps n t
           → record { answer = granted (placed ls); slotMarks = marks; batch = b; tallies = words; carried = t; placed = ls } ≡ offerLeaves m o
       unfolding read
-      leaves-done ls marks words b c g p q k h =
+      leaves-done ls marks words b c g p q k y h =
           let s = shaped e in
           let r : placeIn (m .slots) (slotsOf m) ks ≡ NewLocations =
           ap (placeIn (m .slots) (slotsOf m)) κ ∙ place-read (m .slots) (good e) (o .ids) (o .stores) (o .lengths) (slotsOf m) fit (s .stores) (s .lengths) in
@@ -259,6 +276,6 @@ module _ (m : Memory) (o : Offer) where
             slotMarks = ap (λ (x : Slots). x .marks) w i;
             batch = (k ∙ (λ j. set (sets (sets (m .batch) keptIdsAt (o .ids)) keptLocationsAt ls) 0 (add-one (length (o .ids)) j)) ∙ ap (keptWords (m .batch) (o .ids)) t) i;
             tallies = ap (λ (x : Slots). x .words) w i;
-            carried = column e c h i;
+            carried = column e y c h i;
             placed = (t ∙ v) i;
           }) ∙ leaves-granted g

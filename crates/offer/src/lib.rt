@@ -4,7 +4,7 @@
 //     // ids 4 and 7 get objects of 3 and 300 bytes, 5 is freed; update_carried has carried::WIDTH bytes for each: the collection, the
 //     // key's length in 8 bytes, and 64 bytes that start with the key; a Free's are not looked at
 //     match offer::offer(caps, &id_marks, &locations, &mut slot_marks, &owners, &mut batch, &mut tallies,
-//         &mut carried, &[4, 7, 5], &[true, true, false], &[3, 300, 0], &update_carried, &mut placed) {
+//         &mut carried, &[4, 7, 5], &[1, 1, 0], &[3, 300, 0], &update_carried, &mut placed) {
 //         Finished::Done => ..,              // placed has a packed location for each update, 0 for the Free
 //         Finished::Refused(refusal) => ..,  // 1, 11, 15; by its update 8, 9, 21, 2, 13; by its slab 10; nothing is written
 //     }
@@ -16,6 +16,7 @@ ghost use mathlib.Core.Bool.{_&&_, _||_};
 ghost use mathlib.Core.List.{[]};
 ghost use lib.Dec.{eqb, ltb};
 ghost use Rattle.refusal.specs.Refusals.{keyTooLong};
+ghost use Rattle.keys.specs.Keys.{storesOf};
 ghost use Rattle.model.specs.Columns.{beforeKeys};
 ghost use Rattle.model.specs.Verdict.{_⨾_, test, earlier, judgedVerdict};
 ghost use Rattle.model.specs.Lending.{everyTable, placeTables};
@@ -110,7 +111,7 @@ fn refused(
     owners: &[u64],
     tallies: &[u64],
     ids: &[u64],
-    stores: &[bool],
+    stores: &[u8],
     update_carried: &[u8],
     slabs: &[usize],
 ) -> Judged
@@ -121,7 +122,7 @@ fn refused(
         (now («slot_marks» .entry))
         (now (owners .entry))
         (now (tallies .entry))) [] 0 (now (ids .entry)) (now (slabs .entry)))
-        (keysIn (now (stores .entry)) (now («update_carried» .entry)))
+        (keysIn (storesOf (now (stores .entry))) (now («update_carried» .entry)))
         ⨾ roomInAll (caps .slots) (now («slot_marks» .entry)) (now (tallies .entry)) (tallied noneAsked (now (slabs .entry)))) ⌝ }
 {
     let slots = caps.slots;
@@ -155,7 +156,7 @@ pub fn offer(
     tallies: &mut [u64],
     carried: &mut [u8],
     ids: &[u64],
-    stores: &[bool],
+    stores: &[u8],
     lengths: &[u64],
     update_carried: &[u8],
     placed: &mut [u64],
@@ -179,7 +180,7 @@ pub fn offer(
         (now (carried .entry)))
         (record {
           ids = now (ids .entry);
-          stores = now (stores .entry);
+          stores = storesOf (now (stores .entry));
           lengths = now (lengths .entry);
           carried = now («update_carried» .entry);
           placed = now (placed .entry);

@@ -60,9 +60,10 @@ kindOf-none true n r h e =
     (λ t. omega (arith, ltb-false (slabFor n) slabs t, slabFor-le n))
 
 -- a turn, and the three ends
-pub kinds-turn : (ss : List Bool) (ns out : List ℕ) (i v : ℕ) → i < length ss → i < length ns → v ≡ kindOf (getD ss i false) (getD ns i 0)
+pub kinds-turn : (ss : List Bool) (ns out : List ℕ) (i v : ℕ) (s : Bool) → i < length ss → i < length ns → s ≡ getD ss i false
+    → v ≡ kindOf s (getD ns i 0)
     → sets (set out i v) (i + 1) (kindsOf (drop (i + 1) ss) (drop (i + 1) ns)) ≡ sets out i (kindsOf (drop i ss) (drop i ns))
-kinds-turn ss ns out i v h g e = rw (add-one i, drop-cons ss i false h, drop-cons ns i 0 g, e)
+kinds-turn ss ns out i v s h g f e = rw (add-one i, drop-cons ss i false h, drop-cons ns i 0 g, e, f)
 
 pub kinds-end : (ss : List Bool) (ns out : List ℕ) (i : ℕ) → length ss ≤ i → out ≡ sets out i (kindsOf (drop i ss) (drop i ns))
 kinds-end ss ns out i h = rw (drop-of-length-le ss h)

@@ -1,7 +1,7 @@
 // The updates of an offer (document 01, "Ids, slots, pending"): the slab that each asks for a slot of, worked out once, and the refusals
 // that are given per update: 8, 9, 2 and 13, in that order.
 //
-//     let all = offer_updates::kinds(&[true, true, false], &[3, 300, 0]);  // the slabs of 3 and of 300 bytes; a Free asks for none
+//     let all = offer_updates::kinds(&[1, 1, 0], &[3, 300, 0]);  // the slabs of 3 and of 300 bytes; a Free asks for none
 //     match offer_updates::check(caps, &id_marks, &locations, &slot_marks, &owners, &tallies, &[4, 7, 5], &all[..3]) {
 //         Judged::Passed => ..,
 //         Judged::Refused(refusal) => ..,  // its index is the update's
@@ -14,6 +14,7 @@ ghost use lib.Dec.{eqb};
 ghost use lib.ListN.{length, getD};
 ghost use lib.Seq.{sets};
 ghost use Rattle.list_parts.specs.Lists.{elem};
+ghost use Rattle.keys.specs.Keys.{storesOf};
 ghost use Rattle.model.specs.Tables.{mostUpdates};
 ghost use Rattle.model.specs.Lending.{placeTables};
 ghost use Rattle.model.specs.Lent.{lentBy};
@@ -52,8 +53,8 @@ fn kind(store: bool, length: u64) -> usize
 }
 
 // Of as many updates as a batch can have.
-pub fn kinds(stores: &[bool], lengths: &[u64]) -> [usize; MOST_UPDATES]
-    ensures { λ r. ⌜ r ≡ sets noKinds 0 (kindsOf (now (stores .entry)) (now (lengths .entry))) ⌝ }
+pub fn kinds(stores: &[u8], lengths: &[u64]) -> [usize; MOST_UPDATES]
+    ensures { λ r. ⌜ r ≡ sets noKinds 0 (kindsOf (storesOf (now (stores .entry))) (now (lengths .entry))) ⌝ }
 {
     let mut slabs = [NO_SLAB; MOST_UPDATES];
     let mut i: usize = 0;
@@ -64,7 +65,7 @@ pub fn kinds(stores: &[bool], lengths: &[u64]) -> [usize; MOST_UPDATES]
         if MOST_UPDATES <= i {
             return slabs;
         }
-        slabs[i] = kind(stores[i], lengths[i]);
+        slabs[i] = kind(keys::is_store(stores[i]), lengths[i]);
         i += 1;
     }
     slabs

@@ -31,14 +31,19 @@ pub fn words(line: &[u8], from: u32, n: usize) -> [u64; MOST]
     column
 }
 
-// Likewise kinds: 1 for a Store, 0 for a Free.
-pub fn are_stores(line: &[u8], from: usize, n: usize) -> [bool; MOST]
+// The byte of update i: 0 frees. Any other stores, so that Stores take 255 and down by their place, and not 1 alone.
+fn kind(is_store: bool, i: usize) -> u8 {
+    if is_store { (255 - i % 255) as u8 } else { 0 }
+}
+
+// Likewise kinds, 1 for a Store and 0 for a Free, as the bytes that an offer takes.
+pub fn are_stores(line: &[u8], from: usize, n: usize) -> [u8; MOST]
     requires { ⌜ (from ≤ 2048) × (n ≤ 512) ⌝ }
 {
-    let mut kinds = [false; MOST];
+    let mut kinds = [0u8; MOST];
     let mut i = 0;
     while i < n {
-        kinds[i] = line::word(line, from + i) == 1;
+        kinds[i] = kind(line::word(line, from + i) == 1, i);
         i += 1;
     }
     kinds

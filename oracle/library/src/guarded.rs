@@ -18,12 +18,6 @@ impl Canary for u64 {
     const UNWRITTEN: u64 = 0x5EED_5EED_5EED_5EED;
 }
 
-// Its value is 0 or 1, so its canaries are too.
-impl Canary for bool {
-    const CANARY: bool = true;
-    const UNWRITTEN: bool = false;
-}
-
 #[derive(Clone, PartialEq)]
 pub struct Guarded<T> {
     cells: Vec<T>,

@@ -174,7 +174,8 @@ impl Tables {
 
     pub fn offer(&mut self, updates: &[Update]) -> Result<Vec<u64>, Refused> {
         let ids: Vec<u64> = updates.iter().map(|update| update.id).collect();
-        let stores: Vec<bool> = updates.iter().map(|update| update.store).collect();
+        // Any byte but 0 stores: 255 and down by the update's place.
+        let stores: Vec<u8> = updates.iter().enumerate().map(|(at, update)| if update.store { 255 - (at % 255) as u8 } else { 0 }).collect();
         let lengths: Vec<u64> = updates.iter().map(|update| update.length).collect();
         let told = self.told.take().unwrap_or_else(|| updates.iter().map(Update::carried).collect());
         let carried = lent(&told);

@@ -1,10 +1,11 @@
 -- The loop's invariant: no row so far has too long a key, so that the first is found among the others. The measure is how many rows are left. Assumes nothing.
-use mathlib.Core.Path.{_≡_, refl, _∙_}
+use mathlib.Core.Path.{_≡_, _∙_}
 use Prim.Native.Nat.{_+_, _-_, _*_, _≤_}
 use native.Mathlib.Omega.{arith}
 use lib.ListN.{length, drop}
 use Rattle.carried.specs.Carried.{width}
-use Rattle.keys.specs.Keys.{longIn, firstMet}
+use Rattle.keys.specs.Keys.{longIn, storesOf, firstMet}
+use Rattle.keys.proofs.Laws.{length-storesOf, getD-storesOf}
 use Rattle.keys.proofs.LawsCode.{not-whole, is-whole, when-whole, long-here, long-turn, long-end}
 use borrow.Author.Needs.{needs}
 use Rattle.keys.proofs.first_long.Statement.{statement}
@@ -13,7 +14,7 @@ use Rattle.keys.proofs.first_long.Tie as tie
 abbrev Inv-loop : tie.InvT-loop
 Inv-loop stores rows i₀ i =
     (i ≤ length stores) × (length rows ≡ length stores * width)
-    × (firstMet (longIn stores rows) ≡ i + firstMet (longIn (drop i stores) (drop (i * width) rows)))
+    × (firstMet (longIn (storesOf stores) rows) ≡ i + firstMet (longIn (drop i (storesOf stores)) (drop (i * width) rows)))
 
 abbrev μ-loop : tie.MeasureT-loop
 μ-loop stores rows i₀ i = length stores - i
@@ -33,8 +34,11 @@ mul-start c = search needs
 add-end : tie.Need-add-end Inv-loop μ-loop
 add-end c = search needs
 
-shared-slice-read-is-long : tie.Need-shared-slice-read-is-long Inv-loop μ-loop
-shared-slice-read-is-long c = search needs
+shared-slice-read-is-store : tie.Need-shared-slice-read-is-store Inv-loop μ-loop
+shared-slice-read-is-store c = search needs
+
+is-store-requires : tie.Need-is-store-requires Inv-loop μ-loop
+is-store-requires c κs = search needs
 
 sub-is-long : tie.Need-sub-is-long Inv-loop μ-loop
 sub-is-long c = search needs
@@ -50,9 +54,11 @@ is-long-requires c κs = search needs
 
 returns-2 : tie.Need-returns-2 Inv-loop μ-loop
 returns-2 c =
-    let a = c .before .before .before .before .before .before .before .before .before .before .args in
-    let l = c .before .before .before .before .before .loop in
-    long-here (a .stores .now) (a .rows .now) _ (l .i) refl (l .inv .2) _ _ (omega arith) refl (c .before .is-long .ensures) (c .if2 .taken)
+    let a = c .before .before .before .before .before .before .before .before .before .before .before .args in
+    let l = c .before .before .before .before .before .before .loop in
+    let bs = a .stores .now in
+    let e = c .before .before .before .is-store .ensures ∙ getD-storesOf bs (l .i) in
+    long-here (storesOf bs) (a .rows .now) _ (l .i) (length-storesOf bs) (l .inv .2) _ _ (omega arith) e (c .before .is-long .ensures) (c .if2 .taken)
     ∙ when-whole _ _ _ _ (l .inv .1)
 
 add-i : tie.Need-add-i Inv-loop μ-loop
@@ -63,18 +69,21 @@ loop-less c = search needs
 
 loop-again : tie.Need-loop-again Inv-loop μ-loop
 loop-again c =
-    let a = c .before .before .before .before .before .before .before .before .before .before .args in
-    let l = c .before .before .before .before .before .loop in (
+    let a = c .before .before .before .before .before .before .before .before .before .before .before .args in
+    let l = c .before .before .before .before .before .before .loop in
+    let bs = a .stores .now in
+    let e = c .before .before .before .is-store .ensures ∙ getD-storesOf bs (l .i) in (
       search needs,
       l .inv .1,
-      long-turn (a .stores .now) (a .rows .now) _ (l .i) refl (l .inv .2) _ _ (omega arith) refl (c .before .is-long .ensures) (c .if2 .left),
+      long-turn (storesOf bs) (a .rows .now) _ (l .i) (length-storesOf bs) (l .inv .2) _ _ (omega arith) e (c .before .is-long .ensures) (c .if2 .left),
     )
 
 returns-3 : tie.Need-returns-3 Inv-loop μ-loop
 returns-3 c =
     let a = c .before .before .before .before .before .before .args in
     let l = c .before .loop in
-    long-end (a .stores .now) (a .rows .now) (length (a .stores .now)) (l .i) refl (l .inv .2) (omega arith) ∙ when-whole _ _ _ _ (l .inv .1)
+    let bs = a .stores .now in
+    long-end (storesOf bs) (a .rows .now) (length bs) (l .i) (length-storesOf bs) (l .inv .2) (omega arith) ∙ when-whole _ _ _ _ (l .inv .1)
 
 pub first-long-spec : {M : Type 1} → statement M
 first-long-spec =
@@ -87,7 +96,8 @@ first-long-spec =
     loop-holds
     mul-start
     add-end
-    shared-slice-read-is-long
+    shared-slice-read-is-store
+    is-store-requires
     sub-is-long
     part-is-long-start
     part-is-long-end

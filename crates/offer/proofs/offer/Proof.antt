@@ -3,6 +3,8 @@
 use mathlib.Core.Path.{sym, ap, _∙_}
 use lib.ListN.{length, take}
 use borrow.Author.Needs.{needs}
+use Rattle.keys.specs.Keys.{storesOf}
+use Rattle.keys.proofs.Laws.{length-storesOf}
 use Rattle.model.specs.Lending.{everyTable}
 use Rattle.model.specs.Lent.{lentBy}
 use Rattle.model.specs.Store.{Offer}
@@ -21,8 +23,8 @@ returns : tie.Need-returns
 returns c =
     let a = c .before .before .before .before .before .before .before .before .before .before .before .before .before .before .before .args in
     let m = lentBy everyTable (a .caps .ids) (a .caps .slots) (a .id-marks .now) (a .locations .now) (a .slot-marks .now) (a .owners .now) (a .batch .now) (a .tallies .now) (a .carried .now) in
-    let o : Offer = record { ids = a .ids .now; stores = a .stores .now; lengths = a .lengths .now; carried = a .update-carried .now; placed = a .placed .now } in
-    leaves-as m o (c .of .result) 1 (c .of .ensures) (refused-shape m o (fits-failed m o (c .before .before .fits2 .result) (c .before .before .fits2 .ensures) (c .before .if1 .taken)))
+    let o : Offer = record { ids = a .ids .now; stores = storesOf (a .stores .now); lengths = a .lengths .now; carried = a .update-carried .now; placed = a .placed .now } in
+    leaves-as m o (c .of .result) 1 (c .of .ensures) (refused-shape m o (fits-failed m o (c .before .before .fits2 .result) (sym (length-storesOf (a .stores .now))) (c .before .before .fits2 .ensures) (c .before .if1 .taken)))
 
 get-requires : tie.Need-get-requires
 get-requires c κs = search
@@ -37,8 +39,8 @@ returns-2 : tie.Need-returns-2
 returns-2 c =
     let a = c .before .before .before .before .before .before .before .before .before .before .before .before .before .before .before .before .before .before .args in
     let m = lentBy everyTable (a .caps .ids) (a .caps .slots) (a .id-marks .now) (a .locations .now) (a .slot-marks .now) (a .owners .now) (a .batch .now) (a .tallies .now) (a .carried .now) in
-    let o : Offer = record { ids = a .ids .now; stores = a .stores .now; lengths = a .lengths .now; carried = a .update-carried .now; placed = a .placed .now } in
-    let e = fits-told m o (c .before .before .before .before .before .fits2 .result) (c .before .before .before .before .before .fits2 .ensures) (c .before .before .before .before .if1 .left) in
+    let o : Offer = record { ids = a .ids .now; stores = storesOf (a .stores .now); lengths = a .lengths .now; carried = a .update-carried .now; placed = a .placed .now } in
+    let e = fits-told m o (c .before .before .before .before .before .fits2 .result) (sym (length-storesOf (a .stores .now))) (c .before .before .before .before .before .fits2 .ensures) (c .before .before .before .before .if1 .left) in
     leaves-as m o (c .of2 .result) 11 (c .of2 .ensures) (refused-open m o e (λ q. c .before .if2 .taken (c .before .before .get .ensures ∙ q)))
 
 of-requires-3 : tie.Need-of-requires-3
@@ -51,8 +53,8 @@ returns-3 : tie.Need-returns-3
 returns-3 c =
     let a = c .before .before .before .before .before .before .before .before .before .before .before .before .before .before .before .before .before .before .before .args in
     let m = lentBy everyTable (a .caps .ids) (a .caps .slots) (a .id-marks .now) (a .locations .now) (a .slot-marks .now) (a .owners .now) (a .batch .now) (a .tallies .now) (a .carried .now) in
-    let o : Offer = record { ids = a .ids .now; stores = a .stores .now; lengths = a .lengths .now; carried = a .update-carried .now; placed = a .placed .now } in
-    let e = fits-told m o (c .before .before .before .before .before .before .fits2 .result) (c .before .before .before .before .before .before .fits2 .ensures) (c .before .before .before .before .before .if1 .left) in
+    let o : Offer = record { ids = a .ids .now; stores = storesOf (a .stores .now); lengths = a .lengths .now; carried = a .update-carried .now; placed = a .placed .now } in
+    let e = fits-told m o (c .before .before .before .before .before .before .fits2 .result) (sym (length-storesOf (a .stores .now))) (c .before .before .before .before .before .before .fits2 .ensures) (c .before .before .before .before .before .if1 .left) in
     let z = c .before .before .if2 .left in
     leaves-as m o (c .of3 .result) 15 (c .of3 .ensures) (refused-many m o e (sym (c .before .before .before .get .ensures) ∙ z) (c .before .if3 .taken))
 
@@ -66,8 +68,8 @@ slice-aggregate-slabs : tie.Need-slice-aggregate-slabs
 slice-aggregate-slabs c =
     let a = c .before .before .before .before .before .before .before .before .before .before .before .before .before .before .before .before .before .before .before .before .args in
     let m = lentBy everyTable (a .caps .ids) (a .caps .slots) (a .id-marks .now) (a .locations .now) (a .slot-marks .now) (a .owners .now) (a .batch .now) (a .tallies .now) (a .carried .now) in
-    let o : Offer = record { ids = a .ids .now; stores = a .stores .now; lengths = a .lengths .now; carried = a .update-carried .now; placed = a .placed .now } in
-    let e = fits-told m o (c .before .before .before .before .before .before .before .fits2 .result) (c .before .before .before .before .before .before .before .fits2 .ensures) (c .before .before .before .before .before .before .if1 .left) in
+    let o : Offer = record { ids = a .ids .now; stores = storesOf (a .stores .now); lengths = a .lengths .now; carried = a .update-carried .now; placed = a .placed .now } in
+    let e = fits-told m o (c .before .before .before .before .before .before .before .fits2 .result) (sym (length-storesOf (a .stores .now))) (c .before .before .before .before .before .before .before .fits2 .ensures) (c .before .before .before .before .before .before .if1 .left) in
     let few = c .before .before .if3 .left in
     sym (kinds-long m o e few (c .before .kinds .result) (c .before .kinds .ensures))
 
@@ -90,8 +92,8 @@ returns-4 : tie.Need-returns-4
 returns-4 c =
     let a = c .before .before .before .before .before .before .before .before .before .before .before .before .before .before .before .before .before .before .before .before .before .before .before .before .before .before .args in
     let m = lentBy everyTable (a .caps .ids) (a .caps .slots) (a .id-marks .now) (a .locations .now) (a .slot-marks .now) (a .owners .now) (a .batch .now) (a .tallies .now) (a .carried .now) in
-    let o : Offer = record { ids = a .ids .now; stores = a .stores .now; lengths = a .lengths .now; carried = a .update-carried .now; placed = a .placed .now } in
-    let e = fits-told m o (c .before .before .before .before .before .before .before .before .before .before .before .before .before .fits2 .result) (c .before .before .before .before .before .before .before .before .before .before .before .before .before .fits2 .ensures) (c .before .before .before .before .before .before .before .before .before .before .before .before .if1 .left) in
+    let o : Offer = record { ids = a .ids .now; stores = storesOf (a .stores .now); lengths = a .lengths .now; carried = a .update-carried .now; placed = a .placed .now } in
+    let e = fits-told m o (c .before .before .before .before .before .before .before .before .before .before .before .before .before .fits2 .result) (sym (length-storesOf (a .stores .now))) (c .before .before .before .before .before .before .before .before .before .before .before .before .before .fits2 .ensures) (c .before .before .before .before .before .before .before .before .before .before .before .before .if1 .left) in
     let z = c .before .before .before .before .before .before .before .before .before .if2 .left in
     let few = c .before .before .before .before .before .before .before .before .if3 .left in
     let r = c .before .before .before .before .before .before .before .kinds .result in
@@ -132,15 +134,15 @@ returns-5 : tie.Need-returns-5
 returns-5 c =
     let a = c .before .before .before .before .before .before .before .before .before .before .before .before .before .before .before .before .before .before .before .before .before .before .before .before .before .before .before .before .before .before .before .before .before .before .before .before .before .before .before .before .before .before .before .before .args in
     let m = lentBy everyTable (a .caps .ids) (a .caps .slots) (a .id-marks .now) (a .locations .now) (a .slot-marks .now) (a .owners .now) (a .batch .now) (a .tallies .now) (a .carried .now) in
-    let o : Offer = record { ids = a .ids .now; stores = a .stores .now; lengths = a .lengths .now; carried = a .update-carried .now; placed = a .placed .now } in
-    let e = fits-told m o (c .before .before .before .before .before .before .before .before .before .before .before .before .before .before .before .before .before .before .before .before .before .before .before .before .before .before .before .before .before .before .before .fits2 .result) (c .before .before .before .before .before .before .before .before .before .before .before .before .before .before .before .before .before .before .before .before .before .before .before .before .before .before .before .before .before .before .before .fits2 .ensures) (c .before .before .before .before .before .before .before .before .before .before .before .before .before .before .before .before .before .before .before .before .before .before .before .before .before .before .before .before .before .before .if1 .left) in
+    let o : Offer = record { ids = a .ids .now; stores = storesOf (a .stores .now); lengths = a .lengths .now; carried = a .update-carried .now; placed = a .placed .now } in
+    let e = fits-told m o (c .before .before .before .before .before .before .before .before .before .before .before .before .before .before .before .before .before .before .before .before .before .before .before .before .before .before .before .before .before .before .before .fits2 .result) (sym (length-storesOf (a .stores .now))) (c .before .before .before .before .before .before .before .before .before .before .before .before .before .before .before .before .before .before .before .before .before .before .before .before .before .before .before .before .before .before .before .fits2 .ensures) (c .before .before .before .before .before .before .before .before .before .before .before .before .before .before .before .before .before .before .before .before .before .before .before .before .before .before .before .before .before .before .if1 .left) in
     let z = c .before .before .before .before .before .before .before .before .before .before .before .before .before .before .before .before .before .before .before .before .before .before .before .before .before .before .before .if2 .left in
     let few = c .before .before .before .before .before .before .before .before .before .before .before .before .before .before .before .before .before .before .before .before .before .before .before .before .before .before .if3 .left in
     let r = c .before .before .before .before .before .before .before .before .before .before .before .before .before .before .before .before .before .before .before .before .before .before .before .before .before .kinds .result in
     let ks = take (length (a .ids .now)) r in
     let κ = kinds-told m o e few r (c .before .before .before .before .before .before .before .before .before .before .before .before .before .before .before .before .before .before .before .before .before .before .before .before .before .kinds .ensures) in
     let g = rest-told m o e (sym (c .before .before .before .before .before .before .before .before .before .before .before .before .before .before .before .before .before .before .before .before .before .before .before .before .before .before .before .before .get .ensures) ∙ z) few ks κ _ (c .before .before .before .before .before .before .before .before .before .before .before .before .before .before .before .before .before .before .before .before .before .refused .ensures) ∙ ap judgedVerdict (c .before .before .before .before .before .before .before .before .before .before .before .before .before .before .before .before .before .before .before .enum-told .given .1) in
-    leaves-done m o e (sym (c .before .before .before .before .before .before .before .before .before .before .before .before .before .before .before .before .before .before .before .before .before .before .before .before .before .before .before .before .get .ensures) ∙ z) few ks κ _ _ _ _ _ g (c .before .before .before .before .before .before .before .before .before .before .before .before .before .before .before .place .ensures .0) (c .before .before .before .before .before .before .before .before .before .before .before .before .before .before .before .place .ensures .1) (c .before .before .before .before .before .before .keep .ensures) (c .before .before .keep2 .ensures)
+    leaves-done m o e (sym (c .before .before .before .before .before .before .before .before .before .before .before .before .before .before .before .before .before .before .before .before .before .before .before .before .before .before .before .before .get .ensures) ∙ z) few ks κ _ _ _ _ _ g (c .before .before .before .before .before .before .before .before .before .before .before .before .before .before .before .place .ensures .0) (c .before .before .before .before .before .before .before .before .before .before .before .before .before .before .before .place .ensures .1) (c .before .before .before .before .before .before .keep .ensures) (sym (length-storesOf (a .stores .now))) (c .before .before .keep2 .ensures)
 
 pub offer-spec : {M : Type 1} → statement M
 offer-spec =

@@ -1,24 +1,12 @@
 -- `offer::refused` meets its contract: a verdict that refuses decides, else the next one does. Assumes nothing.
-use mathlib.Core.Bool.{Bool}
-use mathlib.Core.List.{List}
 use mathlib.Core.Path.{ap, _∙_}
-use Prim.Native.Nat.{ℕ}
 use denote.Ref.{now}
-use lib.Dec.{ltb}
-use lib.ListN.{length}
-use Rattle.refusal.specs.Refusals.{keyTooLong}
-use Rattle.model.specs.Columns.{beforeKeys}
-use Rattle.model.specs.Verdict.{Verdict, test, earlier}
 use borrow.Author.Needs.{needs}
 use Rattle.address.specs.Address.{slabs}
 use Rattle.offer_room.specs.Room.{roomIn}
-use Rattle.offer.proofs.LawsOffer.{seq-stop, seq-on}
+use Rattle.offer.proofs.LawsOffer.{seq-stop, seq-on, keys-told}
 use Rattle.offer.proofs.refused.Statement.{statement}
 use Rattle.offer.proofs.refused.Tie as tie
-
--- the updates' tests with those of the keys, of which k is the first that is met
-abbrev keyed : List Bool → Verdict → ℕ → Verdict
-keyed ss v k = earlier beforeKeys v (test (ltb k (length ss)) keyTooLong k)
 
 check-requires : tie.Need-check-requires
 check-requires c κs = search
@@ -39,7 +27,7 @@ returns : tie.Need-returns
 returns c =
     let a = c .before .before .before .before .before .before .before .before .before .before .before .before .before .before .args in
     seq-stop (c .before .before .with-keys .result) _ _ _
-    (c .before .before .with-keys .ensures ∙ (λ i. keyed (now (a .stores)) (c .before .before .before .before .check .ensures i) (c .before .before .before .first-long .ensures i)))
+    (c .before .before .with-keys .ensures ∙ keys-told (now (a .stores)) (now (a .update-carried)) _ _ _ (c .before .before .before .before .check .ensures) (c .before .before .before .first-long .ensures))
     (c .enum-told2 .given .1)
 
 tally-requires : tie.Need-tally-requires
@@ -56,7 +44,7 @@ returns-2 c =
     let a = c .before .before .before .before .before .before .before .before .before .before .before .before .before .before .before .before .before .args in
     c .room .ensures ∙ ap (λ t. roomIn (a .caps .slots) (now (a .slot-marks)) (now (a .tallies)) t slabs 0) (c .before .before .tally .ensures)
     ∙ seq-on (c .before .before .before .before .before .with-keys .result) _ _
-    (c .before .before .before .before .before .with-keys .ensures ∙ (λ i. keyed (now (a .stores)) (c .before .before .before .before .before .before .before .check .ensures i) (c .before .before .before .before .before .before .first-long .ensures i)))
+    (c .before .before .before .before .before .with-keys .ensures ∙ keys-told (now (a .stores)) (now (a .update-carried)) _ _ _ (c .before .before .before .before .before .before .before .check .ensures) (c .before .before .before .before .before .before .first-long .ensures))
     (c .before .before .before .enum-told .given .1)
 
 pub refused-spec : {M : Type 1} → statement M

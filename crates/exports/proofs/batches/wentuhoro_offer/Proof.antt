@@ -1,4 +1,5 @@
 use mathlib.Core.Path.{ap, _∙_}
+use Rattle.keys.specs.Keys.{storesOf}
 use Rattle.model.specs.Store.{Offer}
 use Rattle.model.specs.Lending.{everyTable}
 use Rattle.model.specs.Lent.{lentBy}
@@ -39,7 +40,7 @@ unfolding offerLeaves
 returns c =
     let a = c .before .before .before .before .before .before .before .before .before .before .before .before .before .before .before .before .before .before .before .before .before .before .before .before .before .before .before .before .before .before .args in
     let m = lentBy everyTable (a .ids) (a .slots) (a .id-marks .now) (a .locations .now) (a .slot-marks .now) (a .owners .now) (a .batch .now) (a .tallies .now) (a .carried .now) in
-    let o : Offer = record { ids = a .update-ids .now; stores = a .stores .now; lengths = a .lengths .now; carried = a .update-carried .now; placed = a .placed .now } in
+    let o : Offer = record { ids = a .update-ids .now; stores = storesOf (a .stores .now); lengths = a .lengths .now; carried = a .update-carried .now; placed = a .placed .now } in
     let e = c .before .before .before .before .before .before .before .before .before .before .before .before .offer .ensures in
     (offered-status (c .before .before .before .before .before .before .before .before .before .before .before .before .offer .result) _ _ _ _ _ _ _ e (c .enum-told .given .1), (offer-memory m o _ _ _ _ (ap (λ (w : Left). w .slotMarks) e) (ap (λ (w : Left). w .batch) e) (ap (λ (w : Left). w .tallies) e) (ap (λ (w : Left). w .carried) e), ap (λ (w : Left). w .placed) e))
 
@@ -63,7 +64,7 @@ unfolding offerLeaves
 returns-2 c =
     let a = c .before .before .before .before .before .before .before .before .before .before .before .before .before .before .before .before .before .before .before .before .before .before .before .before .before .before .before .before .before .before .before .before .args in
     let m = lentBy everyTable (a .ids) (a .slots) (a .id-marks .now) (a .locations .now) (a .slot-marks .now) (a .owners .now) (a .batch .now) (a .tallies .now) (a .carried .now) in
-    let o : Offer = record { ids = a .update-ids .now; stores = a .stores .now; lengths = a .lengths .now; carried = a .update-carried .now; placed = a .placed .now } in
+    let o : Offer = record { ids = a .update-ids .now; stores = storesOf (a .stores .now); lengths = a .lengths .now; carried = a .update-carried .now; placed = a .placed .now } in
     let e = c .before .before .before .before .before .before .before .before .before .before .before .before .before .before .offer .ensures in
     (c .status .ensures ∙ offered-status (c .before .before .before .before .before .before .before .before .before .before .before .before .before .before .offer .result) _ _ _ _ _ _ _ e (c .before .before .r .given .1), (offer-memory m o _ _ _ _ (ap (λ (w : Left). w .slotMarks) e) (ap (λ (w : Left). w .batch) e) (ap (λ (w : Left). w .tallies) e) (ap (λ (w : Left). w .carried) e), ap (λ (w : Left). w .placed) e))
 

@@ -21,6 +21,9 @@ add-word c = search needs
 word-requires : tie.Need-word-requires Inv-loop μ-loop
 word-requires c κs = search needs
 
+kind-requires : tie.Need-kind-requires Inv-loop μ-loop
+kind-requires c κs = search needs
+
 array-write-kinds : tie.Need-array-write-kinds Inv-loop μ-loop
 array-write-kinds c = search needs
 
@@ -45,6 +48,7 @@ are-stores-spec =
     loop-holds
     add-word
     word-requires
+    kind-requires
     array-write-kinds
     add-i
     loop-less
