@@ -7,7 +7,8 @@
  * one that document 01 or 02 lists for that call. Cases go to standard output, as fast as somebody reads them there, for judging by the model
  * (fuzz_judge.py).
  *
- * FUZZ_WRONG=refusal, outside, input or answer changes a byte after each call, as if the library had written it. */
+ * FUZZ_WRONG=refusal, outside, input or answer changes a byte after each call, as if the library had written it; FUZZ_WRONG=stores frees each
+ * update whose byte is not 1, as if the library took no other byte for a Store. */
 #define _DEFAULT_SOURCE
 #include <inttypes.h>
 #include <poll.h>
@@ -131,7 +132,7 @@ static const struct {
 enum { LAST_REFUSAL = WENTUHORO_KEY_TOO_LONG };
 
 static uint64_t answered[CALLS][LAST_REFUSAL + 1]; /* by call and refusal, 0 for a grant */
-static uint64_t judged;
+static uint64_t cases, judged;
 
 /* ---- arbitrary contents */
 
@@ -260,6 +261,11 @@ static void once_larger(struct slice *slot_marks, struct slice *tallies, uint64_
     words(tallies)[395 + slab] = ONE_OF(below(true_slots), true_slots - 1, near < true_slots ? near : true_slots - 1);
 }
 
+/* 0 frees, any other byte stores. */
+static void fill_stores(struct slice *s) {
+    for (size_t i = 0; i < s->length; i++) s->at[i] = (uint8_t)(in_hundred(25) ? 0 : 1 + below(255));
+}
+
 /* ---- one case */
 
 #define P(s) words(s), (s)->length
@@ -273,8 +279,26 @@ static uint64_t number(uint64_t n) {
     return n;
 }
 
+/* Whether this is to go wrong. */
+static bool is_wrong(const char *what) {
+    const char *wrong = getenv("FUZZ_WRONG");
+    return wrong != NULL && strcmp(wrong, what) == 0;
+}
+
 static void keep_before(void) {
     for (size_t i = 0; i < lent; i++) memcpy(slices[i].before, slices[i].at, bytes_of(&slices[i]));
+}
+
+/* An offer of what is lent: the seven tables, then the ids, stores, lengths and rows of the updates, and their locations. */
+static uint64_t offer_lent(void) {
+    struct slice *s = slices, *stores = &slices[8];
+    keep_before();
+    if (is_wrong("stores"))
+        for (size_t i = 0; i < stores->length; i++) stores->at[i] = stores->at[i] == 1;
+    uint64_t status = wentuhoro_offer(ids, slots, B(&s[0]), P(&s[1]), B(&s[2]), P(&s[3]), P(&s[4]), P(&s[5]), B(&s[6]), P(&s[7]), B(stores),
+                                      P(&s[9]), B(&s[10]), P(&s[11]));
+    if (is_wrong("stores")) memcpy(stores->at, stores->before, bytes_of(stores));
+    return status;
 }
 
 static float any_ratio(void) {
@@ -309,7 +333,7 @@ static uint64_t store_call(enum call call) {
     else if (has_slots) agree(im, lo, sm, ow);
     number(ids);
     number(slots);
-    struct slice *a, *b, *c, *d, *e;
+    struct slice *a, *b, *c, *d;
     size_t count;
     uint64_t n, t;
     float ratio;
@@ -330,13 +354,12 @@ static uint64_t store_call(enum call call) {
         b = lend_near(1, count, false);
         c = lend_near(8, count, false);
         d = lend_near(1, wentuhoro_carried_len(count), false);
-        e = lend_near(8, count, true);
+        lend_near(8, count, true);
         for (size_t i = 0; i < a->length; i++) words(a)[i] = any_id();
-        for (size_t i = 0; i < b->length; i++) b->at[i] = in_hundred(75);
+        fill_stores(b);
         for (size_t i = 0; i < c->length; i++) words(c)[i] = ONE_OF(3, 3, 59, 60, UINT64_C(17179869172), UINT64_C(17179869173), UINT64_MAX);
         fill_brought(d);
-        keep_before();
-        return wentuhoro_offer(ids, slots, B(im), P(lo), B(sm), P(ow), P(ba), P(ta), B(ca), P(a), B(b), P(c), B(d), P(e));
+        return offer_lent();
     case COMMIT:
         keep_before();
         return wentuhoro_commit(ids, slots, B(im), P(lo), B(sm), P(ow), P(ba), P(ta), B(ca));
@@ -669,14 +692,13 @@ static void look(enum call call, uint64_t status) {
 }
 
 static void wrong_on_purpose(uint64_t status) {
-    const char *wrong = getenv("FUZZ_WRONG");
-    if (wrong == NULL || lent == 0) return;
+    if (lent == 0) return;
     struct slice *last = &slices[lent - 1];
-    if (strcmp(wrong, "outside") == 0) ((uint8_t *)(uintptr_t)canaries(last))[LOOKED_AT / 2] ^= 1;
+    if (is_wrong("outside")) ((uint8_t *)(uintptr_t)canaries(last))[LOOKED_AT / 2] ^= 1;
     if (bytes_of(last) == 0) return;
-    if (strcmp(wrong, "refusal") == 0 && status != 0 && last->written) last->at[0] ^= 1;
-    if (strcmp(wrong, "input") == 0 && !last->written) last->at[0] ^= 1;
-    if (strcmp(wrong, "answer") == 0 && status == 0 && last->written) last->at[0] ^= 1;
+    if (is_wrong("refusal") && status != 0 && last->written) last->at[0] ^= 1;
+    if (is_wrong("input") && !last->written) last->at[0] ^= 1;
+    if (is_wrong("answer") && status == 0 && last->written) last->at[0] ^= 1;
 }
 
 static void put(const void *bytes, size_t count) {
@@ -713,6 +735,34 @@ static void one_case(bool large) {
     if (!large && poll(&out, 1, 0) == 1 && (out.revents & POLLOUT) != 0) tell(call, status);
 }
 
+/* One update of a held id, with each byte there is in its `stores`. All are told: the judge asks for each. */
+static void each_byte(void) {
+    ids = true_ids = 2;
+    slots = true_slots = 1;
+    seed_of_case = seed;
+    for (unsigned byte = 0; byte < 256; byte++, cases++) {
+        lent = number_count = 0;
+        number(ids);
+        number(slots);
+        lend(1, ids, false)->at[1] = 1;
+        lend(8, ids, false);
+        lend(1, WENTUHORO_SLABS, true);
+        lend(8, WENTUHORO_SLABS, false);
+        lend(8, WENTUHORO_BATCH_WORDS, true);
+        lend(8, WENTUHORO_TALLY_WORDS, true);
+        lend(1, wentuhoro_carried_len(WENTUHORO_CARRIED_ROWS(ids)), true);
+        words(lend(8, 1, false))[0] = 1;
+        lend(1, 1, false)->at[0] = (uint8_t)byte;
+        words(lend(8, 1, false))[0] = 3;
+        lend(1, wentuhoro_carried_len(1), false);
+        lend(8, 1, true);
+        uint64_t status = offer_lent();
+        wrong_on_purpose(status);
+        look(OFFER, status);
+        tell(OFFER, status);
+    }
+}
+
 /* The header's sizes are the library's: the longest object of each slab is of that class, one byte more is not. */
 static void check_sizes(void) {
     for (uint64_t slab = 0; slab < WENTUHORO_SLABS; slab++) {
@@ -738,7 +788,8 @@ int main(int argc, char **argv) {
     seed = argc > 2 ? strtoull(argv[2], NULL, 10) : 1;
     check_sizes();
     make_regions();
-    uint64_t cases = 0, missing = 0;
+    each_byte();
+    uint64_t missing = 0;
     double passed, said = 0;
     for (double begun = now(); (passed = now() - begun) < seconds;) {
         if (passed - said >= 10) {

@@ -1,4 +1,6 @@
-"""The model's answers to the cases that fuzz.c tells on standard input: status, values, and the store that the tables mean afterwards."""
+"""The model's answers to the cases that fuzz.c tells on standard input: status, values, and the store that the tables mean afterwards.
+
+Among the offers that are granted there has to be one with each byte in its `stores`."""
 
 import os
 import sys
@@ -23,6 +25,8 @@ LENT = {
     "release": (0, 2, 4, 5), "fresh": range(7), "rebuild": range(7), "stats": (5,), "counters": (5,), "defrag": (1, 2, 3, 4, 5),
     "truncation": (2, 4, 5), "cut_done": (2, 4, 5), "snapshot_length": (0, 1, 4, 5), "snapshot_write": range(7),
 }
+# The slice of an offer that says of each update whether it stores.
+STORES = len(TABLES) + 1
 TALLY_WORDS = 5 * ALLOCATORS + SLABS
 # How many values a call answers in each of its last slices.
 VALUES = {"new_id": (1,), "lookup": (1, CARRIED_WIDTH), "stats": (4,), "defrag": (1,), "truncation": (3,), "snapshot_length": (1,)}
@@ -220,11 +224,14 @@ def differs(case):
 
 def main():
     judged = different = 0
+    bytes_seen = set()
     try:
         while True:
             case = Case(sys.stdin.buffer)
             judged += 1
             what = differs(case)
+            if case.name == "offer" and case.status == 0:
+                bytes_seen.update(case.before[STORES])
             if what is not None:
                 different += 1
                 if different <= 3:
@@ -233,8 +240,9 @@ def main():
                         print(f"  lent {list(before)[:80]}", f"    then {list(after)[:80]}" if before != after else "", sep="\n")
     except EOFError:
         pass
+    print(f"{len(bytes_seen)} of 256 bytes in the `stores` of granted offers")
     print(f"{judged} cases judged by the model: {different or 'none'} differ{'s' if different == 1 else ''}")
-    sys.exit(different > 0 or judged == 0)
+    sys.exit(different > 0 or len(bytes_seen) < 256)
 
 
 main()
