@@ -1,12 +1,16 @@
--- The cases hold: a test of each compares what the rules give with what the documents say by their numbers, which tell the answer (Coded); antt
--- computes all the tests. Assumes nothing.
+-- The cases hold: a test of each compares what the rules give with what the documents say by their numbers, the outcome or the code, which tell the
+-- answer; antt computes all the tests. Assumes nothing.
 use mathlib.Core.Path.{_≡_, refl}
 use mathlib.Core.Bool.{Bool, true, _&&_}
 use mathlib.Core.List.{List, [], _∷_}
 use lib.Ieee.{div, le, lt, eq, ofInt, toUnsigned, round, units, odd, size, span, climb}
 use Rattle.refusal.proofs.Tests.{and-true}
 use Rattle.sizes.specs.Sizes.{classOf, slabSizes, fieldWidth, firstFit, slabFor, sizeOf}
+use Rattle.sizes.specs.Outcomes.{classOutcome}
+use Rattle.sizes.proofs.Outcomes.{classOutcome-one}
 use Rattle.address.specs.Address.{mostSlots, badSlots, packed, unpacked}
+use Rattle.address.specs.Outcomes.{packedOutcome, unpackedOutcome}
+use Rattle.address.proofs.Outcomes.{packedOutcome-one, unpackedOutcome-one}
 use Rattle.address.specs.declared.Packed.the-variants.{Location}
 use Rattle.address.specs.declared.Unpacked.the-variants.{At}
 use Rattle.carried.specs.Carried.{putRow, putRows, upFrom, keptRow, committed}
@@ -16,6 +20,8 @@ use Rattle.snapshot_blocks.specs.Formats.{perBlock}
 use Rattle.snapshot_blocks.specs.Files.{fileLength}
 use Rattle.fragmentation.specs.Cutoff.{isRatio, cutoff}
 use Rattle.fragmentation.specs.Answer.{cutoffOf}
+use Rattle.fragmentation.specs.Outcomes.{cutoffOutcome}
+use Rattle.fragmentation.proofs.Outcomes.{cutoffOutcome-one}
 use Rattle.model.specs.Verdict.{_⨾_, test, testsFrom, earlier}
 use Rattle.model.specs.Tables.{badIds}
 use Rattle.model.specs.Ids.{bumpPending}
@@ -28,15 +34,14 @@ use Rattle.model.specs.Snapshots.{thoseFrom}
 use Rattle.model.specs.Questions.{askRefusal, reply}
 use Rattle.model.specs.Step.{refusalOf, refusal, grant, effect, answer, next}
 use Rattle.model.specs.Cases.{Case, class, packs, unpacks, defrags, truncates, call, Holds, AllHold, cases}
-use Rattle.model.proofs.Coded.{sameCode, classCode, packedCode, unpackedCode, cutoffCode, cutCode, answerCode}
-use Rattle.model.proofs.Coded.{same-class, same-packed, same-unpacked, same-cutoff, same-cut, same-answer}
+use Rattle.model.proofs.Coded.{sameValues, sameValues-eq, sameCode, cutCode, answerCode, same-cut, same-answer}
 
 -- whether a case holds, by the numbers
 abbrev holds : Case → Bool
-holds (class n c) = sameCode (classCode (classOf n)) (classCode c)
-holds (packs slab slot l) = sameCode (packedCode (packed mostSlots (record { slab = slab; slot = slot }))) (packedCode (Location l))
-holds (unpacks l slab slot) = sameCode (unpackedCode (unpacked mostSlots l)) (unpackedCode (At (record { slab = slab; slot = slot })))
-holds (defrags live tip r c) = sameCode (cutoffCode (cutoffOf live tip r)) (cutoffCode c)
+holds (class n c) = sameValues (classOutcome (classOf n)) (classOutcome c)
+holds (packs slab slot l) = sameValues (packedOutcome (packed mostSlots (record { slab = slab; slot = slot }))) (packedOutcome (Location l))
+holds (unpacks l slab slot) = sameValues (unpackedOutcome (unpacked mostSlots l)) (unpackedOutcome (At (record { slab = slab; slot = slot })))
+holds (defrags live tip r c) = sameValues (cutoffOutcome (cutoffOf live tip r)) (cutoffOutcome c)
 holds (truncates slab high t tip c) = sameCode (cutCode (cutAt slab high t tip)) (cutCode c)
 holds (call s c a) = sameCode (answerCode (answer s c)) (answerCode a)
 
@@ -45,10 +50,10 @@ allHold [] = true
 allHold (c ∷ cs) = holds c && allHold cs
 
 it-holds : (c : Case) → holds c ≡ true → Holds c
-it-holds (class n c) e = same-class _ _ e
-it-holds (packs slab slot l) e = same-packed _ _ e
-it-holds (unpacks l slab slot) e = same-unpacked _ _ e
-it-holds (defrags live tip r c) e = same-cutoff _ _ e
+it-holds (class n c) e = classOutcome-one _ _ (sameValues-eq _ _ e)
+it-holds (packs slab slot l) e = packedOutcome-one _ _ (sameValues-eq _ _ e)
+it-holds (unpacks l slab slot) e = unpackedOutcome-one _ _ (sameValues-eq _ _ e)
+it-holds (defrags live tip r c) e = cutoffOutcome-one _ _ (sameValues-eq _ _ e)
 it-holds (truncates slab high t tip c) e = same-cut _ _ e
 it-holds (call s c a) e = same-answer _ _ e
 
