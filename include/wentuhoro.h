@@ -1,6 +1,7 @@
 /* Wentuhoro for C99 and C++: the calls of libexports.a.
  *
- * Each call answers a status: 0 where it is granted, else the refusal's number plus 256 times its index. A refusal writes nothing.
+ * A call answers a status: 0 where it is granted, else the refusal's number plus 256 times its index. A refusal writes nothing. Two calls refuse
+ * nothing and answer no status: wentuhoro_crc32 and wentuhoro_crc32_update answer a check and a register.
  *
  * A slice passes as a pointer and a length. A pointer is aligned for its type and never NULL, also where the length is 0; slices that a
  * call writes overlap no other slice of that call. Anything else has an answer: any length, any contents, any number.
@@ -139,7 +140,7 @@ static inline uint8_t *wentuhoro_kept_bytes_mut(struct wentuhoro_kept *rows) { r
 
 static inline size_t wentuhoro_carried_len(size_t rows) { return WENTUHORO_CARRIED_WIDTH * rows; }
 
-/* The bytes of a slot of this slab; 0 where there is no such slab. */
+/* The bytes of a slot of this slab; 0 where there is no such slab. bindings/c/example.c holds each entry to wentuhoro_slab_sizes. */
 static inline uint64_t wentuhoro_slab_size(size_t slab) {
     static const uint64_t sizes[WENTUHORO_SLABS] = {
         64, 80, 96, 112, 128, 160, 192, 224, 256, 320, 384, 448, 512, 640, 768, 896, 1024, 1280, 1536, 1792, 2048, 2560, 3072, 3584, 4096,
@@ -152,6 +153,10 @@ static inline uint64_t wentuhoro_slab_size(size_t slab) {
 }
 
 /* ---- Classes, checks, frames, cookies, addresses */
+
+/* 78 values: the bytes of a slot of each slab, ascending. The class of n bytes is the first of them that n, the length field and the check fit.
+ * Refuses: 1, for another length. */
+uint64_t wentuhoro_slab_sizes(uint64_t *sizes, size_t sizes_len);
 
 /* One value: the slab for an object of n bytes. Refuses: 2. */
 uint64_t wentuhoro_class(uint64_t n, uint64_t *slab, size_t slab_len);

@@ -171,6 +171,8 @@ for n in [0, 63, 64, 65, 80]:
 for row in [(0, 2, 1, True), (0, 2, 2, True), (0, 2, 257, True), (0, 2, 2, False), (2, 10, 1025, True), (10, 11, 9, True),
             (59, 60, 9, True), (59, 60, 9, False)]:
     changed(*row)
+for k, s in enumerate(SIZES):
+    print(f"size {k} {s} worked out a slot's length")
 for n in [0, 59, 60, 250, 251, 65528, 65529, 4294967284, 4294967285, 17179869172, 17179869173, U64 - 11, U64]:
     class_of(n)
 for slab, slot in [(0, 0), (77, 65535), (78, 0), (0, 65536), (U64, U64)]:

@@ -22,6 +22,15 @@ static void expected(bool true_here, const char *what) {
     exit(1);
 }
 
+/* The header's slab sizes are the library's, entry by entry. */
+static void compare_sizes(void) {
+    uint64_t sizes[WENTUHORO_SLABS] = {0};
+    expected(wentuhoro_slab_sizes(sizes, WENTUHORO_SLABS - 1) == WENTUHORO_WRONG_SHAPE && sizes[0] == 0, "a list of 77 is refused and left as it was");
+    granted("slab_sizes", wentuhoro_slab_sizes(sizes, WENTUHORO_SLABS));
+    for (size_t slab = 0; slab < WENTUHORO_SLABS; slab++) expected(sizes[slab] == wentuhoro_slab_size(slab), "the header has the library's slab sizes");
+    expected(wentuhoro_slab_size(WENTUHORO_SLABS) == 0, "there is no slab 78");
+}
+
 /* One slot of slab 0, written and read back; then with a bit of its gap changed, and then signed again. */
 static void write_and_read(void) {
     const uint8_t object[3] = {1, 2, 3};
@@ -52,6 +61,7 @@ int main(void) {
     static uint64_t locations[IDS], owners[WENTUHORO_SLABS * SLOTS], batch[WENTUHORO_BATCH_WORDS], tallies[WENTUHORO_TALLY_WORDS];
     static struct wentuhoro_kept rows[WENTUHORO_CARRIED_ROWS(IDS)];
     struct wentuhoro_store store = {IDS, SLOTS, id_marks, locations, slot_marks, owners, batch, tallies, rows};
+    compare_sizes();
     write_and_read();
 
     granted("fresh", wentuhoro_store_fresh(&store));

@@ -92,7 +92,7 @@ enum call {
     NEW_ID, LOOKUP, OFFER, COMMIT, ABANDON, RELEASE, FRESH, REBUILD, STATS, COUNTERS, DEFRAG, TRUNCATION, CUT_DONE, SNAPSHOT_LENGTH,
     SNAPSHOT_WRITE,
     CLASS, CRC32, CRC32_UPDATE, FRAME_WRITE, FRAME_READ, COOKIE_WRITE, COOKIE_READ, COOKIE_VERIFY, PACK, UNPACK, CUTOFF, SNAPSHOT_STEP,
-    SNAPSHOT_READ, CALLS
+    SNAPSHOT_READ, SLAB_SIZES, CALLS
 };
 
 static const struct {
@@ -127,6 +127,7 @@ static const struct {
     {"fragmentation_cutoff", "\1\16"},
     {"snapshot_step", "\1\4\6\23"},
     {"snapshot_read", "\1\4\6\23"},
+    {"slab_sizes", "\1"},
 };
 
 enum { LAST_REFUSAL = WENTUHORO_KEY_TOO_LONG };
@@ -587,6 +588,10 @@ static uint64_t leaf_call(enum call call) {
         a = lend_near(8, 1, true);
         keep_before();
         return wentuhoro_class(number(word() >> below(64)), P(a));
+    case SLAB_SIZES:
+        a = lend_near(8, WENTUHORO_SLABS, true);
+        keep_before();
+        return wentuhoro_slab_sizes(P(a));
     case CRC32:
     case CRC32_UPDATE:
         fill_bytes(a = lend(1, below(in_hundred(90) ? 200 : 5000), false));
@@ -763,14 +768,16 @@ static void each_byte(void) {
     }
 }
 
-/* The header's sizes are the library's: the longest object of each slab is of that class, one byte more is not. */
+/* The header's sizes are the library's, entry by entry; the longest object of each slab is of that class, one byte more is not. */
 static void check_sizes(void) {
+    uint64_t sizes[WENTUHORO_SLABS] = {0};
+    wentuhoro_slab_sizes(sizes, WENTUHORO_SLABS);
     for (uint64_t slab = 0; slab < WENTUHORO_SLABS; slab++) {
         uint64_t size = wentuhoro_slab_size((size_t)slab), field = size <= 255 ? 1 : size <= 65535 ? 2 : size <= UINT32_MAX ? 4 : 8;
         uint64_t room = size - field - 4, of_room = 0, of_more = slab + 1;
         wentuhoro_class(room, &of_room, 1);
         wentuhoro_class(room + 1, &of_more, 1);
-        if (of_room != slab || of_more != slab + 1) {
+        if (size != sizes[slab] || of_room != slab || of_more != slab + 1) {
             fprintf(stderr, "slab %" PRIu64 " has another size in the header\n", slab);
             exit(1);
         }

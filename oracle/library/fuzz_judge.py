@@ -15,7 +15,7 @@ CALLS = (
     "new_id", "lookup", "offer", "commit", "abandon", "release", "fresh", "rebuild", "stats", "counters", "defrag", "truncation", "cut_done",
     "snapshot_length", "snapshot_write",
     "class", "crc32", "crc32_update", "frame_write", "frame_read", "cookie_write", "cookie_read", "cookie_verify", "pack", "unpack",
-    "fragmentation_cutoff", "snapshot_step", "snapshot_read",
+    "fragmentation_cutoff", "snapshot_step", "snapshot_read", "slab_sizes",
 )
 
 TABLES = ("id_marks", "locations", "slot_marks", "owners", "batch", "tallies", "carried")
@@ -151,6 +151,8 @@ def leaf_call(case):
     """(the answer, what each slice holds afterwards) by the model."""
     name, numbers, slices = case.name, case.numbers, case.before
     wrong_values = lambda values: Refused(model.WRONG_LENGTH) if len(slices[-1]) != values else None
+    if name == "slab_sizes":
+        return wrong_values(SLABS), [list(model.SLAB_SIZES)]
     if name == "class":
         answer = wrong_values(1) or model.slab_for_size(*numbers)
         return answer, [[answer]]

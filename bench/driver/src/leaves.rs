@@ -88,6 +88,14 @@ fn classes(rounds: u32, picture: &mut Picture) {
 /// Of an update that asks for no slot.
 const NO_SLAB: u8 = 79;
 
+/// What it takes to read the library's constant array: it is laid on the stack, and copied from there.
+fn table_of_sizes(rounds: u32) {
+    println!("\n### The table of slab sizes: ns a call\n\n| | ours |\n|---|--:|");
+    let mut a = |calls| (0..calls).for_each(|_| ignore(black_box(wentuhoro::slab_sizes())));
+    let t = best(rounds, calls_for(78), &mut [&mut a]);
+    println!("| all 78 into a list | {:.1} |", t[0]);
+}
+
 /// What an offer does first, with the Rust's walk: the class of each Store.
 #[inline(never)]
 fn walked(batch: &Batch) -> [u8; BATCH] {
@@ -156,5 +164,6 @@ pub fn run(rounds: u32, picture: &mut Picture) {
     checks("Check of other lengths", &OTHERS, rounds, picture);
     classes(rounds, picture);
     classes_in_an_offer(rounds, picture);
+    table_of_sizes(rounds);
     frames(rounds);
 }

@@ -51,5 +51,5 @@ pub use address::SlabAddress;
 pub use carried::Carried;
 pub use refusal::{Refusal, RefusalKind};
 pub use settings::PersistentSettings;
-pub use slab::{crc32, crc32_update, fragmentation_cutoff, slab_for_size, Slab, SLAB_SIZES};
+pub use slab::{crc32, crc32_update, fragmentation_cutoff, slab_for_size, slab_sizes, Slab, SLAB_SIZES};
 pub use store::{AllocatorStats, Cut, Found, Row, Store, Update};

@@ -6,6 +6,7 @@
 //! the call. Nothing else is asked: any length, contents and number has an answer.
 
 extern "C" {
+    pub fn wentuhoro_slab_sizes(sizes: *mut u64, sizes_len: usize) -> u64;
     pub fn wentuhoro_class(n: u64, slab: *mut u64, slab_len: usize) -> u64;
     pub fn wentuhoro_crc32(bytes: *const u8, bytes_len: usize) -> u32;
     pub fn wentuhoro_crc32_update(register: u32, bytes: *const u8, bytes_len: usize) -> u32;

@@ -1,6 +1,6 @@
 use crate::{raw, Refusal};
 
-/// The bytes of a slot of each slab.
+/// The bytes of a slot of each slab, ascending: [`slab_sizes`] as a constant.
 pub const SLAB_SIZES: [u64; 78] = [
     64, 80, 96, 112, 128, 160, 192, 224, 256, 320, 384, 448, 512, 640, 768, 896, 1024, 1280, 1536, 1792, 2048, 2560, 3072, 3584, 4096,
     5120, 6144, 7168, 8192, 10240, 12288, 14336, 16384, 20480, 24576, 28672, 32768, 40960, 49152, 57344, 65536, 98304, 131072, 163840,
@@ -8,6 +8,19 @@ pub const SLAB_SIZES: [u64; 78] = [
     33554432, 50331648, 67108864, 100663296, 134217728, 201326592, 268435456, 402653184, 536870912, 805306368, 1073741824, 1610612736,
     2147483648, 3221225472, 4294967296, 6442450944, 8589934592, 12884901888, 17179869184,
 ];
+
+/// The library's own table of slab sizes, whose order and class rule are proved: an object's class is the first entry that it, its length field and
+/// its check fit.
+///
+/// ```
+/// assert_eq!(wentuhoro::slab_sizes(), wentuhoro::SLAB_SIZES);
+/// ```
+pub fn slab_sizes() -> [u64; 78] {
+    let mut sizes = [0; 78];
+    let status = unsafe { raw::wentuhoro_slab_sizes(sizes.as_mut_ptr(), sizes.len()) };
+    assert_eq!(status, 0, "a list of 78 is granted");
+    sizes
+}
 
 /// The slab for an object of so many bytes. Refuses more than 17,179,869,172 with 2.
 ///
@@ -103,9 +116,22 @@ pub fn fragmentation_cutoff(live: usize, tip: usize, target_fill_ratio: f32) -> 
 mod tests {
     use super::*;
 
-    /// The table here is the library's: the longest object of each slab's slot is of that class, one byte more is not.
+    /// The constant is the library's table, entry by entry; a list of another length is refused with 1 and left as it was.
     #[test]
     fn sizes_are_the_librarys() {
+        for (slab, size) in slab_sizes().into_iter().enumerate() {
+            assert_eq!(SLAB_SIZES[slab], size);
+        }
+        for length in [0, 77, 79] {
+            let mut sizes = vec![5; length];
+            assert_eq!(unsafe { raw::wentuhoro_slab_sizes(sizes.as_mut_ptr(), length) }, 1);
+            assert!(sizes.iter().all(|size| *size == 5));
+        }
+    }
+
+    /// The longest object of each slab's slot is of that class, one byte more is not.
+    #[test]
+    fn classes_follow_the_sizes() {
         for (slab, size) in SLAB_SIZES.into_iter().enumerate() {
             let field = match size {
                 0..=255 => 1,

@@ -1,8 +1,8 @@
 // Classes, checks, frames, cookies, addresses and cutoffs.
 ghost use mathlib.Core.Path.{_≡_};
-ghost use Rattle.refusal.specs.Outcomes.{finishedOutcome, judgedOutcome};
+ghost use Rattle.refusal.specs.Outcomes.{granted, finishedOutcome, judgedOutcome};
 ghost use Rattle.crc_steps.specs.Crc32.{crcOver, crc32};
-ghost use Rattle.sizes.specs.Sizes.{classOf};
+ghost use Rattle.sizes.specs.Sizes.{slabs, slabSizes, classOf};
 ghost use Rattle.sizes.specs.Outcomes.{classOutcome};
 ghost use Rattle.frame.specs.Frame.{writing, verdictOf};
 ghost use Rattle.frame.specs.Outcomes.{verdictOutcome};
@@ -26,6 +26,19 @@ use refusal::Finished;
 use refusal::Judged;
 use settings::PersistentSettings;
 use sizes::Class;
+
+// The constant table of slab sizes: 78 values.
+#[no_mangle]
+pub extern "C" fn wentuhoro_slab_sizes(sizes: &mut [u64]) -> u64
+    ensures { λ r. ⌜ _≡_ {A = Exported} (record { status = r; lent = now (sizes .exit) })
+        (exported slabs (granted slabSizes) (now (sizes .entry))) ⌝ }
+{
+    if sizes.len() != SlabAddress::SLABS {
+        return WRONG_LENGTH;
+    }
+    sizes::put_slab_sizes(sizes);
+    0
+}
 
 // The slab for an object of n bytes. One value.
 #[no_mangle]

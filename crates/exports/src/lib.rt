@@ -1,7 +1,8 @@
 // The library's calls for C and Rust: numbers and slices alone.
 //
-// One convention. Every call answers a status: 0 where it is granted, else the refusal's number plus 256 times its index. Values go to a
-// lent slice of exactly as many words, which is as it was on a refusal; a slice of another length is refused with 1, index 0.
+// One convention. A call answers a status: 0 where it is granted, else the refusal's number plus 256 times its index. Values go to a
+// lent slice of exactly as many words, which is as it was on a refusal; a slice of another length is refused with 1, index 0. Two calls refuse
+// nothing and answer no status: wentuhoro_crc32 and wentuhoro_crc32_update answer a check and a register.
 mod batches;
 mod leaves;
 mod moves_and_cuts;
@@ -24,6 +25,7 @@ pub use leaves::wentuhoro_fragmentation_cutoff;
 pub use leaves::wentuhoro_frame_read;
 pub use leaves::wentuhoro_frame_write;
 pub use leaves::wentuhoro_pack;
+pub use leaves::wentuhoro_slab_sizes;
 pub use leaves::wentuhoro_unpack;
 pub use moves_and_cuts::wentuhoro_cut_done;
 pub use moves_and_cuts::wentuhoro_defrag;

@@ -142,7 +142,7 @@ slabFor-after n k h l =
     (eq-or-lt-of-le upto))
 
 -- a slab that takes n bytes is theirs, or a smaller one is
-slabFor-upto : (n k : ℕ) → n + fieldWidth (sizeOf k) + checkWidth ≤ sizeOf k → slabFor n ≤ k
+pub slabFor-upto : (n k : ℕ) → n + fieldWidth (sizeOf k) + checkWidth ≤ sizeOf k → slabFor n ≤ k
 slabFor-upto n k h = by-test (ltb k (slabFor n)) (λ t. absurd (omega (arith, slabFor-least n k (ltb-true k (slabFor n) t)))) (ltb-false k (slabFor n))
 
 -- n bytes are of the slab after k where k does not take them and that one does

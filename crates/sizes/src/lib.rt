@@ -5,10 +5,12 @@
 //         Class::Refused(refusal) => ..,  // 2, beyond the largest class
 //     }
 ghost use mathlib.Core.Path.{_≡_};
-ghost use mathlib.Core.Bool.{_&&_};
+ghost use mathlib.Core.Bool.{cond, _&&_};
 ghost use Prim.Native.Nat.{_≤_, _<_};
-ghost use lib.Dec.{leb};
-ghost use Rattle.sizes.specs.Sizes.{slabSizes, sizeOf, isSlabSize, fieldWidth, longestObject, slabFor, classOf};
+ghost use lib.Dec.{eqb, leb};
+ghost use lib.ListN.{length};
+ghost use Rattle.sizes.specs.Sizes.{slabs, slabSizes, sizeOf, isSlabSize, fieldWidth, longestObject, slabFor, classOf};
+ghost use Rattle.sizes.specs.Table.{Ascends, ClassRule};
 ghost use Rattle.sizes.specs.OddPart.{goes};
 ghost use Rattle.sizes.specs.Edges.{longestInFirst, longestWith2, longestWith8};
 use refusal::Refusal;
@@ -119,14 +121,31 @@ pub enum Class {
     Refused(Refusal),
 }
 
-// The constant table, whole.
+// The constant table, whole. Its order and the class rule are promised of what is returned.
 pub fn slab_sizes() -> [u64; SLABS]
-    ensures { λ r. ⌜ r ≡ slabSizes ⌝ }
+    ensures table { λ r. ⌜ r ≡ slabSizes ⌝ }
+    ensures order { λ r. ⌜ Ascends r ⌝ }
+    ensures classes { λ r. ⌜ ClassRule r ⌝ }
 {
     SLAB_SIZES
 }
 
-// The size of a slab; 0 for a number that is no slab. A constant array is laid on the stack wherever it is read, so
+// The constant table in a lent list of as many entries; a list of another length is left as it was.
+pub fn put_slab_sizes(list: &mut [u64])
+    ensures { λ _. ⌜ now (list .exit) ≡ cond (eqb (length (now (list .entry))) slabs) slabSizes (now (list .entry)) ⌝ }
+{
+    if list.len() != SLABS {
+        return;
+    }
+    let table = slab_sizes();
+    let mut i: usize = 0;
+    while i < SLABS {
+        list[i] = table[i];
+        i += 1;
+    }
+}
+
+// SLAB_SIZES[slab], and 0 past its end. A constant array is laid on the stack wherever it is read, so that here, where it is hot,
 // the entry is worked out: four sizes to each doubling up to 65,536, then two, and one more.
 pub fn slab_size(slab: usize) -> u64
     ensures { λ r. ⌜ r ≡ sizeOf slab ⌝ }

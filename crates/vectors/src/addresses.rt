@@ -1,10 +1,33 @@
-// Classes and packed locations at their limits.
+// Slab sizes, and classes and packed locations at their limits.
 use crate::say;
 use address::Made;
 use address::Packed;
 use address::SlabAddress;
 use address::Unpacked;
 use sizes::Class;
+
+// Each entry of the constant table; what is worked out where a size is hot, in place of reading the table, is that entry.
+fn size(slab: usize, entry: u64) {
+    say::text(b"size");
+    say::number(slab as u64);
+    say::number(entry);
+    if sizes::slab_size(slab) == entry {
+        say::text(b" worked out");
+    }
+    if sizes::is_slab_size(entry) {
+        say::text(b" a slot's length");
+    }
+    say::end();
+}
+
+fn sizes_of_slabs() {
+    let table = sizes::slab_sizes();
+    let mut slab: usize = 0;
+    while slab < SlabAddress::SLABS {
+        size(slab, table[slab]);
+        slab += 1;
+    }
+}
 
 fn class(n: u64) {
     say::text(b"class");
@@ -56,6 +79,7 @@ fn unpacked(slots: usize, location: u64) {
 }
 
 pub fn run() {
+    sizes_of_slabs();
     class(0);
     class(59);
     class(60);
