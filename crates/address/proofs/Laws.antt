@@ -1,16 +1,20 @@
 -- Laws of addresses: what is unpacked is in range, and packing and unpacking undo each other. Assumes nothing.
 use mathlib.Core.Bool.{Bool, true, false, cond, _&&_, _||_}
-use mathlib.Core.Path.{_≡_, refl}
+use mathlib.Core.Path.{_≡_, refl, sym, ap}
 use Prim.Native.Nat.{ℕ, _+_, _-_, _≤_, _<_, _/_, _%_}
 use native.Mathlib.Omega.{arith}
 use lib.Dec.{leb, ltb, eqb}
-use borrow.Author.Tests.{ltb-true, ltb-false, leb-true, leb-false, lt-ltb, le-leb, lt-leb, ne-eqb}
+use borrow.Author.Tests.{ltb-true, ltb-false, leb-true, leb-false, lt-ltb, le-ltb, le-leb, lt-leb, ne-eqb}
 use Rattle.refusal.specs.Refusals.{refusal, wrongShape, outOfRange}
-use Rattle.refusal.proofs.Tests.{or-false}
-use Rattle.address.specs.Address.{badSlots, packing, packed, unpacked, unit}
+use Rattle.refusal.specs.declared.Refusal.{Refusal}
+use Rattle.refusal.proofs.Tests.{or-false, by-test}
+use Rattle.address.specs.Address.{badSlots, largestSlot, madeOf, packing, packed, locationIn, unpacked, unit}
 use Rattle.sizes.specs.Sizes.{slabs}
 use Rattle.address.specs.declared.SlabAddress.{SlabAddress}
+use Rattle.address.specs.declared.Made.{Made}
+use Rattle.address.specs.declared.Made.the-variants as M
 use Rattle.address.specs.declared.Packed.the-variants as P
+use Rattle.address.specs.declared.Unpacked.{Unpacked}
 use Rattle.address.specs.declared.Unpacked.the-variants as U
 
 -- ---- badSlots
@@ -50,6 +54,70 @@ unpacked-at slots location a =
           slot-lt = omega (arith, ltb-true);
           whole = omega (arith, leb-true);
         }
+
+-- by the checking constructor: a location from the weight of a slab on, whose slot is below the capacity
+abbrev pub unpackedBy : Made → Unpacked
+unpackedBy (M.At a) = U.At a
+unpackedBy (M.Refused r) = U.Refused r
+
+module _ (slots location : ℕ) (ok : badSlots slots ≡ false) (nz : eqb location 0 ≡ false) where
+  pub unpacked-low : location < unit → U.Refused (refusal outOfRange 0) ≡ unpacked slots location
+  unfolding unpacked
+  unpacked-low h =
+      let low : leb 1 (location / unit) ≡ false = lt-leb 1 (location / unit) (omega arith) in
+      simp (ok, nz, low)
+
+  pub unpacked-past : slots ≤ location % unit → U.Refused (refusal outOfRange 0) ≡ unpacked slots location
+  unfolding unpacked
+  unpacked-past h =
+      let past : ltb (location % unit) slots ≡ false = le-ltb (location % unit) slots h in
+      by-test (leb 1 (location / unit) && leb (location / unit) slabs) (λ t. simp (ok, nz, t, past)) (λ t. simp (ok, nz, t))
+
+  pub unpacked-made : unit ≤ location → location % unit < slots → unpackedBy (madeOf (location / unit - 1) (location % unit)) ≡ unpacked slots location
+  unfolding unpacked madeOf
+  unpacked-made above below =
+      let r = slots-range slots ok in
+      let low : leb 1 (location / unit) ≡ true = le-leb 1 (location / unit) (omega arith) in
+      let slot : ltb (location % unit) slots ≡ true = lt-ltb _ _ below in
+      let small : ltb largestSlot (location % unit) ≡ false = le-ltb largestSlot (location % unit) (omega arith) in
+      by-test (leb (location / unit) slabs)
+      (λ t.
+      let b : leb slabs (location / unit - 1) ≡ false = lt-leb slabs (location / unit - 1) (omega (arith, leb-true (location / unit) slabs t)) in
+      simp (ok, nz, low, slot, small, t, b))
+      (λ t.
+      let b : leb slabs (location / unit - 1) ≡ true = le-leb slabs (location / unit - 1) (omega (arith, leb-false (location / unit) slabs t)) in
+      simp (ok, nz, low, t, b))
+
+-- ---- made
+-- the address that is made is the one that was asked for
+pub made-at : (slab slot : ℕ) (a : SlabAddress) → madeOf slab slot ≡ M.At a → _≡_ {A = SlabAddress} (record { slab = slab; slot = slot }) a
+unfolding madeOf
+made-at slab slot a = by (leb slabs slab || ltb largestSlot slot)
+  where
+    by : (t : Bool) → cond t (M.Refused (refusal outOfRange 0)) (M.At (record { slab = slab; slot = slot })) ≡ M.At a → _≡_ {A = SlabAddress} (record { slab = slab; slot = slot }) a
+    by true e = let n : _≡_ {A = ℕ} 0 1 = cc in absurd (omega arith)
+    by false e = cc
+
+-- so what it packs into is what the slab and the slot do
+pub made-packed : (slots slab slot : ℕ) (a : SlabAddress) → madeOf slab slot ≡ M.At a → packed slots a ≡ packed slots (record { slab = slab; slot = slot })
+made-packed slots slab slot a e = ap (packed slots) (sym (made-at slab slot a e))
+
+-- one that is not made has no packed location, whatever the capacity
+pub made-none : (slots slab slot : ℕ) (r : Refusal) → madeOf slab slot ≡ M.Refused r → locationIn (packed slots (record { slab = slab; slot = slot })) ≡ 0
+unfolding madeOf packed
+made-none slots slab slot r e =
+    by-test (badSlots slots) (λ b. simp b)
+    (λ b.
+    by-test (leb slabs slab) (λ t. simp (b, t))
+    (λ t.
+    by-test (ltb largestSlot slot)
+    (λ u.
+    let k = slots-range slots b in
+    let p : leb slots slot ≡ true = le-leb slots slot (omega (arith, ltb-true largestSlot slot u)) in
+    simp (b, t, p))
+    (λ u.
+    let q : M.At (record { slab = slab; slot = slot }) ≡ M.Refused r = simp (t, u) at e in
+    let n : _≡_ {A = ℕ} 0 1 = cc in absurd (omega arith))))
 
 -- ---- packing, then unpacking
 pub unpacked-packed : (slots : ℕ) (a : SlabAddress) → badSlots slots ≡ false → a .slab < slabs → a .slot < slots

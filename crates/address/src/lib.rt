@@ -1,6 +1,7 @@
 // Where an object stands: a slab and a slot, and the one number that both are packed into (document 01, "Addresses").
 //
-//     let Packed::Location(location) = (SlabAddress { slab: 77, slot: 5 }).pack(slots) else { .. };
+//     let Made::At(address) = SlabAddress::from_slab_slot(77, 5) else { .. };  // 3, no such slab or slot
+//     let Packed::Location(location) = address.pack(slots) else { .. };        // 1, a capacity out of range; 3, a slot past it
 //     match SlabAddress::unpack(slots, location) {
 //         Unpacked::At(address) => ..,
 //         Unpacked::NoObject => ..,          // a location of zero
@@ -45,7 +46,7 @@ impl SlabAddress {
 
     pub const MOST_SLOTS: usize = 65536;
     // A packed location is (slab + 1) of these, and the slot.
-    const UNIT: u64 = 0x100_0000_0000_0000;
+    pub const UNIT: u64 = 0x100_0000_0000_0000;
 
     // The address of a slot that some capacity has.
     pub fn from_slab_slot(slab: usize, slot: usize) -> Made
@@ -94,17 +95,17 @@ impl SlabAddress {
         if location == 0 {
             return Unpacked::NoObject;
         }
-        let high = (location / Self::UNIT) as usize;
         let slot = (location % Self::UNIT) as usize;
-        if 1 <= high && high <= Self::SLABS && slot < slots {
-            return Unpacked::At(SlabAddress {
-                slab: high - 1,
-                slot,
+        if location < Self::UNIT || slot >= slots {
+            return Unpacked::Refused(Refusal {
+                number: Refusal::OUT_OF_RANGE,
+                index: 0,
             });
         }
-        Unpacked::Refused(Refusal {
-            number: Refusal::OUT_OF_RANGE,
-            index: 0,
-        })
+        let slab = (location / Self::UNIT - 1) as usize;
+        match Self::from_slab_slot(slab, slot) {
+            Made::At(address) => Unpacked::At(address),
+            Made::Refused(refusal) => Unpacked::Refused(refusal),
+        }
     }
 }

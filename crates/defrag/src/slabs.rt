@@ -4,11 +4,12 @@ ghost use mathlib.Core.Bool.{true};
 ghost use Prim.Native.Nat.{_+_, _*_, _<_, _≤_};
 ghost use lib.ListN.{length};
 ghost use lib.Seq.{sets};
-ghost use Rattle.address.specs.Address.{slabs, locationIn, mostSlots};
+ghost use Rattle.address.specs.Address.{slabs, packed, locationIn, mostSlots};
 ghost use Rattle.fragmentation.specs.Cutoff.{isRatio};
 ghost use Rattle.model.specs.Tables.{idsOf, locationsOf};
 ghost use Rattle.defrag.specs.Listed.{startOf, spanOf, slabRows, listedFrom};
 use crate::rows::add_rows;
+use address::Made;
 use address::Packed;
 use address::SlabAddress;
 use fragmentation::Cutoff;
@@ -29,13 +30,17 @@ fn start(cutoff: Cutoff, tip: usize) -> usize
     }
 }
 
-fn location(packed: Packed) -> u64
-    ensures { λ r. ⌜ r ≡ locationIn packed ⌝ }
+// The location of a slab's first slot.
+fn first_location(slots: usize, slab: usize) -> u64
+    ensures { λ r. ⌜ r ≡ locationIn (packed slots (record { slab = slab; slot = 0 })) ⌝ }
 {
-    match packed {
-        Packed::Location(location) => location,
-        Packed::Refused(_) => 0,
-    }
+    let Made::At(address) = SlabAddress::from_slab_slot(slab, 0) else {
+        return 0;
+    };
+    let Packed::Location(location) = address.pack(slots) else {
+        return 0;
+    };
+    location
 }
 
 fn looked_at(slots: usize, slot_marks: &[u8], tallies: &[u64], r: f32, slab: usize) -> Span
@@ -90,7 +95,7 @@ fn add_slab(
     let base = slab * slots;
     let low = base + looked.from;
     let high = base + looked.tip;
-    let first = location(SlabAddress { slab, slot: 0 }.pack(slots)) + looked.from as u64;
+    let first = first_location(slots, slab) + looked.from as u64;
     add_rows(
         locations,
         &owners[low..high],
@@ -135,7 +140,7 @@ pub(crate) fn list_all(
 {
     let mut n: usize = 0;
     let mut slab: usize = 0;
-    while slab < tables::SLABS {
+    while slab < SlabAddress::SLABS {
         n = add_slab(
             slots,
             locations,

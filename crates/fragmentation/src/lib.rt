@@ -10,12 +10,11 @@ ghost use mathlib.Core.Path.{_≡_};
 ghost use mathlib.Core.Bool.{not};
 ghost use Prim.Native.Nat.{min};
 ghost use lib.Ieee as Ieee;
+ghost use Rattle.address.specs.Address.{mostSlots};
 ghost use Rattle.fragmentation.specs.Cutoff.{isRatio};
 ghost use Rattle.fragmentation.specs.Answer.{cutoffOf};
+use address::SlabAddress;
 use refusal::Refusal;
-
-// The largest slot capacity, and so the largest tip.
-const MOST_SLOTS: usize = 65536;
 
 // The weight of the exponent's field in the bits of an f32, and of the leading digit, which the bits leave out.
 const LEADING: u32 = 0x80_0000;
@@ -38,10 +37,10 @@ pub fn bad_ratio(r: f32) -> bool
 
 // x cut to a whole number, from its bits: the digits, shifted by the exponent. Past the largest tip, that.
 fn cut(x: f32) -> usize
-    ensures { λ n. ⌜ n ≡ min 65536 (Ieee.toUnsigned 64 x) ⌝ }
+    ensures { λ n. ⌜ n ≡ min mostSlots (Ieee.toUnsigned 64 x) ⌝ }
 {
     if x >= 65536.0 {
-        return MOST_SLOTS;
+        return SlabAddress::MOST_SLOTS;
     }
     if x >= 1.0 {
         let bits = f32::to_bits(x);
@@ -56,7 +55,7 @@ fn cut(x: f32) -> usize
 pub fn fragmentation_cutoff(live: usize, tip: usize, r: f32) -> Cutoff
     ensures { λ c. ⌜ c ≡ cutoffOf live tip r ⌝ }
 {
-    if tip > MOST_SLOTS || live > tip {
+    if tip > SlabAddress::MOST_SLOTS || live > tip {
         return Cutoff::Refused(Refusal {
             number: Refusal::WRONG_SHAPE,
             index: 0,

@@ -1,6 +1,6 @@
 // What a granted offer writes (document 01, "Ids, slots, pending"): the slots' marks and words, the lent list, the kept batch.
 //
-//     offer_places::place(slots, &mut slot_marks, &mut tallies, &[0, 9, SLABS], &mut placed);  // the first free slots of slabs 0 and 9; 0
+//     offer_places::place(slots, &mut slot_marks, &mut tallies, &[0, 9, SlabAddress::SLABS], &mut placed);  // the first free slots of slabs 0 and 9; 0
 //     offer_places::keep(&mut batch, &[4, 7, 5], &placed, 4);                                  // open, with three updates
 //
 // Neither can fail: where a slab has no free slot the location is 0, and nothing is taken.
@@ -12,6 +12,7 @@ ghost use Rattle.address.specs.Address.{badSlots, isLocation};
 ghost use Rattle.model.specs.Memory.{keptIdsAt, keptLocationsAt};
 ghost use Rattle.model.specs.MemoryAfter.{takeSlot, takeSlots};
 ghost use Rattle.offer_places.specs.Places.{slotsIn, spotIn, placeIn};
+use address::Made;
 use address::Packed;
 use address::SlabAddress;
 use address::Unpacked;
@@ -19,7 +20,6 @@ use tables::GRANTED;
 use tables::HINT;
 use tables::KEPT_IDS;
 use tables::KEPT_LOCATIONS;
-use tables::SLABS;
 use tables::USED;
 use tables::add;
 use tables::get;
@@ -30,12 +30,15 @@ use tables::slab_marks;
 fn spot(slots: usize, slot_marks: &[u8], tallies: &[u64], slab: usize) -> u64
     ensures { λ r. ⌜ r ≡ spotIn slots (slotsIn (now («slot_marks» .entry)) (now (tallies .entry))) slab ⌝ }
 {
-    if slab >= SLABS {
+    if slab >= SlabAddress::SLABS {
         return 0;
     }
     let hint = get(tallies, HINT, slab + 1) as usize;
     let slot = id_allocator::smallest_free(slab_marks(slot_marks, slots, slab), hint, 0);
-    let Packed::Location(location) = (SlabAddress { slab, slot }).pack(slots) else {
+    let Made::At(address) = SlabAddress::from_slab_slot(slab, slot) else {
+        return 0;
+    };
+    let Packed::Location(location) = address.pack(slots) else {
         return 0;
     };
     location

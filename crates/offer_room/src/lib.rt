@@ -1,6 +1,6 @@
 // Room in the slabs (document 01, "Ids, slots, pending"): refusal 10 names the lowest slab that is asked for more slots than it has free.
 //
-//     let asked = offer_room::tally(&[0, 0, 9]);  // two slots of slab 0, one of slab 9; SLABS and above ask for none
+//     let asked = offer_room::tally(&[0, 0, 9]);  // two slots of slab 0, one of slab 9; SlabAddress::SLABS and above ask for none
 //     match offer_room::room(slots, &slot_marks, &tallies, &asked) {
 //         Judged::Passed => ..,
 //         Judged::Refused(refusal) => ..,  // its index is the slab's
@@ -16,19 +16,19 @@ ghost use Rattle.marks.specs.Marks.{isFree, countIf};
 ghost use Rattle.id_allocator.specs.Counted.{hinted};
 ghost use Rattle.model.specs.Verdict.{judgedVerdict};
 ghost use Rattle.offer_room.specs.Room.{freeIn, tallied, noneAsked, roomInAll};
+use address::SlabAddress;
 use refusal::Judged;
 use refusal::Refusal;
 use tables::HINT;
-use tables::SLABS;
 use tables::add;
 use tables::get;
 use tables::slab_marks;
 
 // How many updates ask for a slot of each slab.
-pub fn tally(slabs: &[usize]) -> [u64; SLABS]
+pub fn tally(slabs: &[usize]) -> [u64; SlabAddress::SLABS]
     ensures { λ r. ⌜ r ≡ tallied noneAsked (now (slabs .entry)) ⌝ }
 {
-    let mut asked = [0u64; SLABS];
+    let mut asked = [0u64; SlabAddress::SLABS];
     let mut i: usize = 0;
     while i < slabs.len() {
         add(&mut asked, 0, slabs[i], 1);
@@ -114,7 +114,7 @@ pub fn room(slots: usize, slot_marks: &[u8], tallies: &[u64], asked: &[u64]) -> 
     ensures { λ r. ⌜ judgedVerdict r ≡ roomInAll slots (now («slot_marks» .entry)) (now (tallies .entry)) (now (asked .entry)) ⌝ }
 {
     let mut slab: usize = 0;
-    while slab < SLABS {
+    while slab < SlabAddress::SLABS {
         if slab_lacks(slots, slot_marks, tallies, slab, get(asked, 0, slab)) {
             return Judged::Refused(Refusal::at(Refusal::NONE_FREE, slab));
         }

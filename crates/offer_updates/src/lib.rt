@@ -21,18 +21,18 @@ ghost use Rattle.model.specs.Lent.{lentBy};
 ghost use Rattle.model.specs.Verdict.{judgedVerdict};
 ghost use Rattle.tables.specs.Entries.{heldIn, badIn};
 ghost use Rattle.offer_updates.specs.Kinds.{noClassKind, noKinds, kindOf, kindsOf, before, numberBy, checkIn};
+use address::SlabAddress;
 use refusal::Judged;
 use refusal::Refusal;
 use sizes::Class;
 use tables::Capacities;
 use tables::MOST_UPDATES;
-use tables::SLABS;
 use tables::bad_location;
 use tables::get;
 use tables::held_id;
 
 // A Store whose object has no class, and a Free, among the slabs that updates ask for.
-const NO_CLASS: usize = SLABS;
+const NO_CLASS: usize = SlabAddress::SLABS;
 
 const NO_SLAB: usize = NO_CLASS + 1;
 

@@ -10,7 +10,7 @@ ghost use mathlib.Core.Path.{_≡_};
 ghost use mathlib.Core.Bool.{true, false};
 ghost use Prim.Native.Nat.{_<_, _≤_};
 ghost use lib.ListN.{length, getD, replicate};
-ghost use Rattle.address.specs.Address.{badSlots, isLocation};
+ghost use Rattle.address.specs.Address.{badSlots, isLocation, mostSlots};
 ghost use Rattle.model.specs.Rebuild.{rowsOf};
 ghost use Rattle.rebuild_rows.specs.Checks.{isAt, wrongIn, firstWrong, groups, hasBit, withBit, repeatsAt, markedBy, repeatIn, repeatsFrom, checked, refusedRow};
 use address::SlabAddress;
@@ -25,9 +25,6 @@ pub struct Wrong {
     pub row: usize,
     pub number: u8,
 }
-
-// The weight of a slab in a packed location.
-const UNIT: u64 = 0x100_0000_0000_0000;
 
 // One pass serves a group of slabs: as many as a mark has bits.
 const GROUP: u64 = 8;
@@ -102,7 +99,7 @@ fn first_wrong(caps: Capacities, ids: &[u64], row_locations: &[u64]) -> Wrong
     ensures { λ r. ⌜ r
         ≡ firstWrong (caps .ids) (caps .slots) (replicate 65536 0) 0 (rowsOf (now (ids .entry)) (now («row_locations» .entry))) ⌝ }
 {
-    let mut seen = [0u8; 65536];
+    let mut seen = [0u8; Capacities::MOST_IDS];
     first_wrong_by(caps, &mut seen, ids, row_locations)
 }
 
@@ -125,11 +122,11 @@ fn repeats(marks: &mut [u8], group: u64, location: u64) -> bool
     ensures { λ r. ⌜ (r ≡ repeatsAt group (now (marks .entry)) location)
         × (now (marks .exit) ≡ markedBy group (now (marks .entry)) location) ⌝ }
 {
-    let top = location / UNIT;
+    let top = location / SlabAddress::UNIT;
     if top / GROUP != group {
         return false;
     }
-    let slot = (location % UNIT) as usize;
+    let slot = (location % SlabAddress::UNIT) as usize;
     let bit = top % GROUP;
     let mark = mark_at(marks, slot);
     id_allocator::put(marks, slot, with_bit(mark, bit));
@@ -171,16 +168,16 @@ fn first_repeat_within(slots: usize, marks: &mut [u8], locations: &[u64]) -> usi
 }
 
 fn first_repeat(slots: usize, locations: &[u64]) -> usize
-    requires { ⌜ slots ≤ 65536 ⌝ }
+    requires { ⌜ slots ≤ mostSlots ⌝ }
     ensures { λ r. ⌜ r ≡ repeatsFrom slots (now (locations .entry)) groups 0 (length (now (locations .entry))) ⌝ }
 {
-    let mut marks = [0u8; 65536];
+    let mut marks = [0u8; SlabAddress::MOST_SLOTS];
     first_repeat_within(slots, &mut marks, locations)
 }
 
 // The first of as many ids and locations.
 fn first_of(caps: Capacities, ids: &[u64], row_locations: &[u64]) -> Wrong
-    requires { ⌜ (badSlots (caps .slots) ≡ false) × (caps .slots ≤ 65536) × (length (now «row_locations») ≡ length (now ids)) ⌝ }
+    requires { ⌜ (badSlots (caps .slots) ≡ false) × (caps .slots ≤ mostSlots) × (length (now «row_locations») ≡ length (now ids)) ⌝ }
     ensures { λ r. ⌜ r ≡ checked (caps .ids) (caps .slots) (now (ids .entry)) (now («row_locations» .entry)) ⌝ }
 {
     let wrong = first_wrong(caps, ids, row_locations);

@@ -15,6 +15,7 @@ ghost use Rattle.model.specs.Store.{release, finishedAnswer};
 ghost use Rattle.model.specs.Memory.{getWord, hintWords, waitingWords};
 ghost use Rattle.model.specs.Lent.{lentTo, answered, leaves};
 ghost use Rattle.model.specs.MemoryAfter.{Slots, releasedMarks, releasedWords, releaseSlabs};
+use address::SlabAddress;
 use refusal::Finished;
 use refusal::Refusal;
 use tables::Capacities;
@@ -82,7 +83,7 @@ fn release_slabs(slots: usize, slot_marks: &mut [u8], tallies: &mut [u64])
 {
     let mut slab: usize = 0;
     let mut start: usize = 0;
-    while slab < tables::SLABS {
+    while slab < SlabAddress::SLABS {
         let end = start + slots;
         slab += 1;
         release_allocator(&mut slot_marks[start..end], tallies, slab);

@@ -5,17 +5,17 @@ use crate::columns::ANY;
 use crate::columns::MOST;
 use crate::kinds;
 use crate::lines;
+use address::SlabAddress;
 use carried::WIDTH;
 use replay_words::file;
 use replay_words::line;
 use replay_words::tally::Tally;
 use tables::BATCH_WORDS;
 use tables::MOST_UPDATES;
-use tables::SLABS;
 use tables::TALLY_WORDS;
 
 // The most slots that the 78 slabs of a store have.
-const MOST_SLOTS: usize = 39936;
+const ALL_SLOTS: usize = SlabAddress::SLABS * MOST;
 
 // The most bytes that rows carry: of 512 ids and 256 kept updates.
 const MOST_CARRIED: usize = (MOST + MOST_UPDATES) * WIDTH;
@@ -23,12 +23,12 @@ const MOST_CARRIED: usize = (MOST + MOST_UPDATES) * WIDTH;
 // The tables as they are lent to the first call, which has to write every word of them.
 const ANY_MARK: u8 = 165;
 
-fn slot_marks() -> [u8; MOST_SLOTS] {
-    [ANY_MARK; MOST_SLOTS]
+fn slot_marks() -> [u8; ALL_SLOTS] {
+    [ANY_MARK; ALL_SLOTS]
 }
 
-fn owners() -> [u64; MOST_SLOTS] {
-    [ANY; MOST_SLOTS]
+fn owners() -> [u64; ALL_SLOTS] {
+    [ANY; ALL_SLOTS]
 }
 
 // The capacity that word k of a line STORE says; any other line leaves it.
@@ -65,7 +65,7 @@ fn each_line(name: &[u8], text: &[u8]) -> Tally {
         let line = &text[at..next];
         ids = capacity(line, 3, ids);
         slots = capacity(line, 4, slots);
-        let all = slots * SLABS;
+        let all = slots * SlabAddress::SLABS;
         let rows = (ids + MOST_UPDATES) * WIDTH;
         let agrees = lines::agrees(
             ids,

@@ -19,7 +19,7 @@ use snapshot_blocks::Row;
 const LONGEST: usize = 6710785;
 
 // The most slots of a slab: a snapshot does not say its store's.
-const SLOTS: usize = 65536;
+const SLOTS: usize = SlabAddress::MOST_SLOTS;
 
 // Its length is said besides, so that a caller need not open the definition of so long a list.
 fn space() -> [u8; LONGEST]

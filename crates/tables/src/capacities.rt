@@ -6,8 +6,8 @@ ghost use lib.Dec.{eqb};
 ghost use Rattle.model.specs.Tables.{capacities, badIds, carriedBytes};
 ghost use Rattle.address.specs.Address.{slabs};
 use crate::MOST_UPDATES;
-use crate::SLABS;
 use crate::both;
+use address::SlabAddress;
 use carried::WIDTH;
 
 pub struct Capacities {
@@ -47,7 +47,7 @@ impl Capacities {
         if !self.good() {
             return false;
         }
-        length == SLABS * self.slots
+        length == SlabAddress::SLABS * self.slots
     }
 
     // The same of the column of what rows carry: a row for each id, then one for each kept update.

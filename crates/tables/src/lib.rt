@@ -1,7 +1,7 @@
 // The seven tables that a store is lent, and what they say of one id, one slot, one allocator (document 01, "Ids, slots, pending").
 //
 //     let caps = Capacities { ids: 9, slots: 8 };
-//     // id_marks: [u8; 9], locations: [u64; 9], slot_marks: [u8; tables::SLABS * 8], owners: [u64; tables::SLABS * 8],
+//     // id_marks: [u8; 9], locations: [u64; 9], slot_marks: [u8; SlabAddress::SLABS * 8], owners: [u64; SlabAddress::SLABS * 8],
 //     // batch: [u64; tables::BATCH_WORDS], tallies: [u64; tables::TALLY_WORDS],
 //     // carried: [u8; (9 + tables::MOST_UPDATES) * carried::WIDTH]
 //     rebuild::fresh(caps, &mut id_marks, &mut locations, &mut slot_marks, &mut owners, &mut batch, &mut tallies, &mut carried);
@@ -13,11 +13,13 @@ mod entries;
 mod shapes;
 mod words;
 
+use address::SlabAddress;
 pub use capacities::Capacities;
 pub use clear::clear_marks;
 pub use clear::clear_words;
 pub use entries::bad_location;
 pub use entries::held_id;
+pub use entries::is_owner;
 pub use entries::slab_marks;
 pub use shapes::all_fit;
 pub use shapes::all_hold;
@@ -34,10 +36,8 @@ pub use words::add;
 pub use words::get;
 pub use words::put;
 
-pub const SLABS: usize = address::SlabAddress::SLABS;
-
 // The ids' allocator, then the slabs'.
-pub const ALLOCATORS: usize = SLABS + 1;
+pub const ALLOCATORS: usize = SlabAddress::SLABS + 1;
 
 pub const MOST_UPDATES: usize = 256;
 
@@ -61,4 +61,4 @@ pub const WAITING: usize = 4 * ALLOCATORS;
 
 pub const HIGH: usize = 5 * ALLOCATORS;
 
-pub const TALLY_WORDS: usize = HIGH + SLABS;
+pub const TALLY_WORDS: usize = HIGH + SlabAddress::SLABS;

@@ -26,6 +26,7 @@ ghost use Rattle.model.specs.Memory.{read, getWord, usedWords, hintWords};
 ghost use Rattle.model.specs.Lent.{lentTo, answered, leaves};
 ghost use Rattle.model.specs.MemoryAfter.{raiseWord};
 ghost use Rattle.truncation.specs.Truncations.{askedAnswer, truncatedAnswer};
+use address::SlabAddress;
 use refusal::Finished;
 use refusal::Refusal;
 use tables::Capacities;
@@ -45,7 +46,7 @@ enum Asked {
 const LEAST_TARGET: u64 = 1;
 
 const MOST_TARGET: u64 = 86;
-// Below this top a file is cut to what is in use, from it on to more.
+// Below this top, so up to 16 slots, a file is cut to what is in use; from it on to 15 percent more.
 const SMALL: u64 = 16;
 
 fn larger(a: u64, b: u64) -> u64
@@ -164,7 +165,7 @@ fn ask(
     if tables::get(batch, 0, 0) != 0 {
         return Asked::Refused(Refusal::of(Refusal::BATCH_OPEN));
     }
-    if slab >= tables::SLABS as u64 {
+    if slab >= SlabAddress::SLABS as u64 {
         return Asked::Refused(Refusal::of(Refusal::OUT_OF_RANGE));
     }
     if tables::get(tallies, tables::HIGH, slab as usize) >= caps.slots as u64 {

@@ -7,7 +7,6 @@ use libc::STDOUT_FILENO;
 use tables::BATCH_WORDS;
 use tables::Capacities;
 use tables::MOST_UPDATES;
-use tables::SLABS;
 use tables::TALLY_WORDS;
 
 fn text(words: &[u8]) {
@@ -138,8 +137,8 @@ fn list(
 fn main() {
     let mut id_marks = [0u8; 9];
     let mut locations = [0u64; 9];
-    let mut slot_marks = [0u8; SLABS * 8];
-    let mut owners = [0u64; SLABS * 8];
+    let mut slot_marks = [0u8; SlabAddress::SLABS * 8];
+    let mut owners = [0u64; SlabAddress::SLABS * 8];
     let mut batch = [0u64; BATCH_WORDS];
     let mut tallies = [0u64; TALLY_WORDS];
     let mut carried = [0u8; (9 + MOST_UPDATES) * WIDTH];
