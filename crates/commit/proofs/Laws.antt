@@ -7,7 +7,10 @@ use native.Mathlib.Nat.{zero-add}
 use native.Mathlib.Omega.{arith}
 use lib.ListN.{length, getD, set}
 use Rattle.refusal.specs.Outcomes.{granted}
+use Rattle.refusal.specs.Refusals.{tablesDisagree}
+use Rattle.refusal.specs.Refusals as Refusals
 use Rattle.refusal.specs.declared.Refusal.{Refusal}
+use Rattle.refusal.specs.declared.Judged.the-variants as J
 use Rattle.address.specs.Address.{badSlots, slabs}
 use Rattle.carried.specs.Carried.{width, committed}
 use Rattle.model.specs.Store as S
@@ -32,7 +35,7 @@ use Rattle.batch_kept.specs.declared.Rows.the-variants as R
 use Rattle.batch_kept.specs.Kept.{countOf, keptFrom, rowsAs, firstBad}
 use Rattle.batch_kept.proofs.Laws.{badRow-read, commitRows-first, oneOpen-few, rowsAs-count, rowsAs-refused}
 use Rattle.batch_kept.proofs.Checked.{check-count, check-refused, check-kept, granted-answer, granted-after}
-use Rattle.commit.specs.Commit.{notOwn, rowBad}
+use Rattle.commit.specs.Commit.{ownAs, notOwn, rowBad}
 
 -- ---- one row
 rowBad-read : (m : Memory) (r : Row) → badSlots (m .slots) ≡ false → length (m .slotMarks) ≡ slabs * m .slots
@@ -48,6 +51,15 @@ notOwn-read slots locations marks owners words id old x y r told p q e h =
     let z : 0 + id ≡ id = zero-add id in
     (λ k. badIn slots marks owners words (sym p k) (getD locations (sym p k) 0))
     ∙ ap (λ o. badIn slots marks owners words id o) (ap (λ a. getD locations a 0) (sym z) ∙ sym q) ∙ sym e ∙ h
+
+-- ---- what is said of a row
+pub ownAs-refused : (bad : Bool) (i : ℕ) (r : Refusal) → ownAs bad i ≡ J.Refused r → (bad ≡ true) × (r ≡ Refusals.refusal tablesDisagree i)
+ownAs-refused true i r e = let q : Refusals.refusal tablesDisagree i ≡ r = cc in (refl, sym q)
+ownAs-refused false i r e = let z : _≡_ {A = ℕ} 0 1 = cc in absurd (omega arith)
+
+pub ownAs-passed : (bad : Bool) (i : ℕ) → ownAs bad i ≡ J.Passed → bad ≡ false
+ownAs-passed true i e = let z : _≡_ {A = ℕ} 0 1 = cc in absurd (omega arith)
+ownAs-passed false i e = refl
 
 -- ---- the rows leave what they carry to others
 abbrev bare : Memory → Memory

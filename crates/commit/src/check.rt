@@ -7,8 +7,12 @@ ghost use Rattle.model.specs.Memory.{read};
 ghost use Rattle.model.specs.Lent.{lentTo};
 ghost use Rattle.model.specs.Step.{refusal};
 ghost use Rattle.batch_kept.specs.Kept.{keptFrom, firstBad, rowsAs, rowsBefore};
-ghost use Rattle.commit.specs.Commit.{notOwn, rowBad};
+ghost use Rattle.tables.specs.Entries.{badIn};
+ghost use Rattle.commit.specs.Commit.{ownAs, notOwn, rowBad};
+use address::SlabAddress;
+use address::Unpacked;
 use batch_kept::Rows;
+use refusal::Judged;
 use refusal::Refusal;
 use tables::Capacities;
 use tables::KEPT_IDS;
@@ -21,6 +25,32 @@ fn rows_before(said: Rows) -> usize
         Rows::Count(n) => n,
         Rows::Refused(refusal) => refusal.index,
     }
+}
+
+// Refusal 13 of update i by the present location of its id: it is out of range, its slot is not held, or its owner is another. Zero means no object: an id
+// that was never stored passes.
+fn own_location(
+    slots: usize,
+    slot_marks: &[u8],
+    owners: &[u64],
+    tallies: &[u64],
+    id: u64,
+    location: u64,
+    i: usize,
+) -> Judged
+    ensures { λ r. ⌜ r
+        ≡ ownAs (badIn slots (now («slot_marks» .entry)) (now (owners .entry)) (now (tallies .entry)) id location) i ⌝ }
+{
+    if location == 0 {
+        return Judged::Passed;
+    }
+    let Unpacked::At(address) = SlabAddress::unpack(slots, location) else {
+        return Judged::Refused(Refusal::at(Refusal::TABLES_DISAGREE, i));
+    };
+    if !tables::is_owner(slots, slot_marks, owners, tallies, id, address) {
+        return Judged::Refused(Refusal::at(Refusal::TABLES_DISAGREE, i));
+    }
+    Judged::Passed
 }
 
 // The first n kept updates, or 13 for the first of them whose id's present location cannot be its own.
@@ -44,8 +74,9 @@ fn own_rows(
     while i < n {
         let id = tables::get(batch, KEPT_IDS, i);
         let old = tables::get(locations, 0, id as usize);
-        if tables::bad_location(slots, slot_marks, owners, tallies, id, old) {
-            return Rows::Refused(Refusal::at(Refusal::TABLES_DISAGREE, i));
+        let own = own_location(slots, slot_marks, owners, tallies, id, old, i);
+        if let Judged::Refused(refusal) = own {
+            return Rows::Refused(refusal);
         }
         i += 1;
     }

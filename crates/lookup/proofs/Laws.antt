@@ -1,6 +1,6 @@
 -- A lookup in what the code reads: its lengths, then one id, one location and one row. Assumes nothing.
-use mathlib.Core.Bool.{true, false, not, _&&_, _||_}
-use mathlib.Core.List.{List, [], _++_, append-nil}
+use mathlib.Core.Bool.{true, false, not, cond, _&&_, _||_}
+use mathlib.Core.List.{List, [], _∷_, _++_, append-nil}
 use mathlib.Core.Path.{_≡_, refl, sym, ap, _∙_}
 use Prim.Native.Nat.{ℕ, _+_, _*_, _≤_, _<_}
 use native.Mathlib.Nat.{zero-mul}
@@ -8,13 +8,21 @@ use native.Mathlib.Omega.{arith}
 use lib.Dec.{eqb, ltb}
 use lib.ListN.{length, getD, drop}
 use lib.Seq.{drop-length}
-use borrow.Author.Tests.{not-false, eqb-true, ltb-true}
+use borrow.Author.Tests.{not-false, eqb-true, ltb-true, ne-eqb}
+use types.Run.{OneOf}
+use denote.Enum.Declared.{tagOf}
 use Rattle.refusal.specs.Outcomes.{granted, refused}
 use Rattle.refusal.specs.Refusals.{refusal, wrongShape, noSuchId, tablesDisagree}
 use Rattle.refusal.specs.declared.Refusal.{Refusal}
-use Rattle.refusal.proofs.Tests.{and-true, or-false}
+use Rattle.refusal.proofs.Tests.{and-true, or-false, by-test}
 use Rattle.list_parts.specs.Parts.{part}
 use Rattle.list_parts.proofs.Parts.{part-end, length-part-full}
+use Rattle.address.specs.Address.{unpacked}
+use Rattle.address.specs.declared.SlabAddress.{SlabAddress}
+use Rattle.address.specs.declared.Unpacked.{Unpacked}
+use Rattle.address.specs.declared.Unpacked.the-variants as U
+use Rattle.address.proofs.Unpacked.{the-type}
+use Rattle.address.proofs.Laws.{unpacked-at}
 use Rattle.carried.specs.Carried.{width, rowIn, putRow}
 use Rattle.carried.proofs.Laws.{rowIn-part, putRow-done}
 use Rattle.model.specs.Lending.{rowTables}
@@ -30,8 +38,8 @@ use Rattle.model.specs.Tests.{lists}
 use Rattle.model.specs.Verdict.{Verdict, ok, refuse, test, _⨾_}
 use Rattle.model.proofs.Sizes.{shape-read, fits-range, fits-slot-marks, fits-carried}
 use Rattle.model.proofs.Verdicts.{test-ok, first-ok, tests-join}
-use Rattle.tables.specs.Entries.{heldIn, badIn}
-use Rattle.tables.proofs.LawsEntries.{heldIn-read, badIn-read}
+use Rattle.tables.specs.Entries.{heldIn, ownsIn, badIn}
+use Rattle.tables.proofs.LawsEntries.{heldIn-read, badIn-none, badIn-at, badIn-read}
 use Rattle.lookup.specs.Lookup.{lookedAnswer, locatedAs, lookedIn}
 use Rattle.lookup.specs.declared.Looked.{Looked}
 use Rattle.lookup.specs.declared.Looked.the-variants as L
@@ -52,6 +60,40 @@ locatedAs-refused ok p r e = let z : _≡_ {A = ℕ} 0 1 = cc in absurd (omega a
 locatedAs-refused (refuse k i) p r e =
     let q : refusal k i ≡ r = cc in
     ap (λ (x : Refusal). refuse (x .number) (x .index)) q
+
+-- ---- one id, by what its location unpacks to
+module _ (ids slots : ℕ) (idMarks locations slotMarks owners words : List ℕ) (i : ℕ) where
+  abbrev l : ℕ
+  l = getD locations i 0
+
+  abbrev pub Located : Looked → Type 0
+  Located r = r ≡ locatedAs (lookedIn ids slots idMarks locations slotMarks owners words i) l
+
+  pub located-free : heldIn ids idMarks words i ≡ false → Located (L.Refused (refusal noSuchId 0))
+  unfolding lookedIn test _⨾_
+  located-free h = simp h
+
+  module _ (h : heldIn ids idMarks words i ≡ true) where
+    -- no address: zero is no object, any other number contradicts the tables
+    pub located-none : (u : Unpacked) → u ≡ unpacked slots l → OneOf (1 ∷ 2 ∷ []) (tagOf the-type u)
+        → Located (L.Refused (refusal (cond (eqb l 0) noSuchId tablesDisagree) 0))
+    unfolding lookedIn test _⨾_
+    located-none u e k =
+        let bad = badIn-none slots slotMarks owners words i l u e k in
+        by-test (eqb l 0) (λ z. simp (h, z)) (λ z. simp (h, z, bad))
+
+    -- an address: its slot is held and the id its owner, or the tables contradict each other
+    module _ (a : SlabAddress) (e : unpacked slots l ≡ U.At a) where
+      stored : eqb l 0 ≡ false
+      stored = ne-eqb l 0 (λ (q : l ≡ 0). omega (arith, unpacked-at slots l a e .whole))
+
+      pub located-own : ownsIn slots slotMarks owners words i a ≡ true → Located (L.Location l)
+      unfolding lookedIn test _⨾_
+      located-own o = simp (h, stored, badIn-at slots slotMarks owners words i l a e, o)
+
+      pub located-other : ownsIn slots slotMarks owners words i a ≡ false → Located (L.Refused (refusal tablesDisagree 0))
+      unfolding lookedIn test _⨾_
+      located-other o = simp (h, stored, badIn-at slots slotMarks owners words i l a e, o)
 
 -- ---- a row written over one of its length
 over-whole : (xs t : List ℕ) → length xs ≡ length t → over xs t ≡ xs

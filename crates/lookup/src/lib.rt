@@ -9,15 +9,18 @@
 //
 // No table is written, and an open batch does not matter: what it stores is seen once it is committed.
 ghost use mathlib.Core.Path.{_≡_};
-ghost use mathlib.Core.Bool.{_&&_};
+ghost use mathlib.Core.Bool.{cond, _&&_};
 ghost use lib.Dec.{eqb};
 ghost use lib.ListN.{length, getD};
+ghost use Rattle.refusal.specs.Refusals.{noSuchId, tablesDisagree};
 ghost use Rattle.carried.specs.Carried.{width};
 ghost use Rattle.model.specs.Lending.{rowTables};
 ghost use Rattle.model.specs.Lent.{fitsBy, answered};
 ghost use Rattle.model.specs.Outcomes.{listIn};
 ghost use Rattle.model.specs.Store.{ask, lookup};
 ghost use Rattle.lookup.specs.Lookup.{lookedAnswer, locatedAs, lookedIn};
+use address::SlabAddress;
+use address::Unpacked;
 use carried::WIDTH;
 use refusal::Refusal;
 use tables::Capacities;
@@ -55,6 +58,17 @@ fn fits(
     )
 }
 
+// The number that a location without an address is refused with: zero means no object, and any other number is out of range.
+fn without_address(location: u64) -> u8
+    ensures { λ r. ⌜ r ≡ cond (eqb location 0) noSuchId tablesDisagree ⌝ }
+{
+    if location == 0 {
+        Refusal::NO_SUCH_ID
+    } else {
+        Refusal::TABLES_DISAGREE
+    }
+}
+
 // The id's location, or why it is not told.
 fn locate(
     caps: Capacities,
@@ -80,10 +94,10 @@ fn locate(
         return Looked::Refused(Refusal::of(Refusal::NO_SUCH_ID));
     }
     let location = locations[id as usize];
-    if location == 0 {
-        return Looked::Refused(Refusal::of(Refusal::NO_SUCH_ID));
-    }
-    if tables::bad_location(slots, slot_marks, owners, tallies, id, location) {
+    let Unpacked::At(address) = SlabAddress::unpack(slots, location) else {
+        return Looked::Refused(Refusal::of(without_address(location)));
+    };
+    if !tables::is_owner(slots, slot_marks, owners, tallies, id, address) {
         return Looked::Refused(Refusal::of(Refusal::TABLES_DISAGREE));
     }
     Looked::Location(location)

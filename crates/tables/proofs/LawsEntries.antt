@@ -6,7 +6,7 @@ use mathlib.Core.List.{List, [], _∷_}
 use Prim.Native.Nat.{ℕ, zero, suc, _+_, _-_, _*_, _/_, _%_, _≤_, _<_, pred}
 use native.Mathlib.Nat.{mul-le-mul}
 use native.Mathlib.Omega.{arith}
-use lib.Dec.{ltb, eqb·suc-zero}
+use lib.Dec.{ltb, eqb, eqb·suc-zero}
 use lib.ListN.{length, getD, take, drop, drop-of-length-le}
 use lib.Seq.{take-nil}
 use borrow.Author.Tests.{lt-ltb}
@@ -17,15 +17,17 @@ use Rattle.refusal.proofs.Tests.{by-test}
 use Rattle.list_parts.specs.Parts.{part}
 use Rattle.list_parts.proofs.Parts.{part-at}
 use Rattle.address.specs.Address.{unit, isLocation, badSlots, unpacked, slabs}
+use Rattle.address.specs.declared.SlabAddress.{SlabAddress}
 use Rattle.address.specs.declared.Unpacked.{Unpacked}
 use Rattle.address.specs.declared.Unpacked.the-variants as U
 use Rattle.address.proofs.Unpacked.{the-type}
 use Rattle.address.proofs.Laws.{slots-range}
+use Rattle.id_allocator.specs.Counted.{hinted, quiet, counted}
 use Rattle.model.specs.Tables.{heldId, badAt}
 use Rattle.model.specs.Memory.{Memory, countedBy, countedSlabs, read}
 use Rattle.model.proofs.Locations.{isLocation-says}
 use Rattle.model.proofs.Slabs.{part-countedSlabs}
-use Rattle.tables.specs.Entries.{heldIn, slabPart, badBy, badIn}
+use Rattle.tables.specs.Entries.{heldIn, slabPart, ownsIn, badBy, badIn}
 
 -- ---- ids
 pub heldIn-read : (m : Memory) (i : ℕ) → heldId (read m) i ≡ heldIn (m .ids) (m .idMarks) (m .tallies) i
@@ -44,6 +46,22 @@ slabPart-is cap k t h e = simp (lt-ltb k slabs h, e)
 pub start-lt : (cap k : ℕ) → k < slabs → badSlots cap ≡ false → k * cap ≤ 77 * 65536
 start-lt cap k h e = let b : k ≤ 77 = omega arith in mul-le-mul b (slots-range cap e .1)
 
+-- where there is no such slab or capacity no slot is held, so that no id owns one
+counted-none : (hint waiting : ℕ) → counted hint waiting [] ≡ []
+unfolding counted quiet hinted
+counted-none hint waiting = rw (take-nil {A = ℕ} hint, drop-of-length-le {A = ℕ} [] {i = hint} (omega arith)) (by waiting)
+  where
+    by : (w : ℕ) → quiet w [] ≡ []
+    by zero = refl
+    by (suc w) = refl
+
+pub ownsIn-none : (cap : ℕ) (marks owners words : List ℕ) (i : ℕ) (a : SlabAddress) → (ltb (a .slab) slabs && not (badSlots cap)) ≡ false
+    → false ≡ ownsIn cap marks owners words i a
+ownsIn-none cap marks owners words i a e =
+    let p : slabPart cap marks (a .slab) ≡ [] = slabPart-none cap (a .slab) marks e in
+    let q : countedBy words (a .slab + 1) (slabPart cap marks (a .slab)) ≡ [] = ap (countedBy words (a .slab + 1)) p ∙ counted-none _ _ in
+    rw q
+
 -- the end of a list, from its length on, is empty
 pub end-part : (t : List ℕ) → take (length t - length t) (drop (length t) t) ≡ []
 end-part t = rw (drop-of-length-le t {i = length t} (omega arith)) (take-nil (length t - length t))
@@ -55,6 +73,20 @@ else-is f d p q U.NoObject k = p
 else-is f d p q (U.Refused r) k = q r
 
 -- ---- locations
+-- refusal 13 by what a location unpacks to
+module _ (cap : ℕ) (marks owners words : List ℕ) (i l : ℕ) where
+  pub badIn-none : (u : Unpacked) → u ≡ unpacked cap l → OneOf (1 ∷ 2 ∷ []) (tagOf the-type u) → badIn cap marks owners words i l ≡ not (eqb l 0)
+  unfolding badBy
+  badIn-none u e k = ap (badBy cap marks owners words i l) (sym e) ∙ else-is (badBy cap marks owners words i l) _ refl (λ r. refl) u k
+
+  pub badIn-at : (a : SlabAddress) → unpacked cap l ≡ U.At a → badIn cap marks owners words i l ≡ not (ownsIn cap marks owners words i a)
+  unfolding badBy
+  badIn-at a e = ap (badBy cap marks owners words i l) e
+
+  pub badIn-zero : l ≡ 0 → badIn cap marks owners words i l ≡ false
+  unfolding badBy unpacked
+  badIn-zero e = rw e (by-test (badSlots cap) (λ b. simp b) (λ b. simp b))
+
 -- a slot's mark, read slab by slab
 mark-read : (m : Memory) (k j : ℕ) → length (m .slotMarks) ≡ slabs * m .slots → k < slabs → j < m .slots
     → getD (countedSlabs (m .slots) (m .tallies) slabs 0 (m .slotMarks)) (k * m .slots + j) 0 ≡ getD (countedBy (m .tallies) (k + 1) (part (m .slots) (m .slotMarks) k)) j 0

@@ -1,8 +1,7 @@
 // One id and one slot, as the tables have them.
 ghost use mathlib.Core.Path.{_≡_};
-ghost use Rattle.tables.specs.Entries.{heldIn, slabPart, badIn};
+ghost use Rattle.tables.specs.Entries.{heldIn, slabPart, ownsIn, badIn};
 use crate::HINT;
-use crate::SLABS;
 use crate::WAITING;
 use crate::get;
 use address::SlabAddress;
@@ -28,7 +27,7 @@ pub fn slab_marks(slot_marks: &[u8], slots: usize, slab: usize) -> &[u8]
     ensures { λ r. ⌜ now r ≡ slabPart slots (now («slot_marks» .entry)) slab ⌝ }
 {
     let length = slot_marks.len();
-    if slab >= SLABS || address::bad_slots(slots) {
+    if slab >= SlabAddress::SLABS || address::bad_slots(slots) {
         return &slot_marks[length..];
     }
     let start = slab * slots;
@@ -40,6 +39,30 @@ pub fn slab_marks(slot_marks: &[u8], slots: usize, slab: usize) -> &[u8]
     }
     let end = start + slots;
     &slot_marks[start..end]
+}
+
+// Whether a slot is held and the id is its owner; no where there is no such slab or capacity.
+pub fn is_owner(
+    slots: usize,
+    slot_marks: &[u8],
+    owners: &[u64],
+    tallies: &[u64],
+    id: u64,
+    address: SlabAddress,
+) -> bool
+    ensures { λ r. ⌜ r ≡ ownsIn slots (now («slot_marks» .entry)) (now (owners .entry)) (now (tallies .entry)) id address ⌝ }
+{
+    let slab = address.slab;
+    let slot = address.slot;
+    if slab >= SlabAddress::SLABS || address::bad_slots(slots) {
+        return false;
+    }
+    let hint = get(tallies, HINT, slab + 1) as usize;
+    let waiting = get(tallies, WAITING, slab + 1);
+    if !id_allocator::is_held(slab_marks(slot_marks, slots, slab), hint, waiting, slot) {
+        return false;
+    }
+    get(owners, slab * slots, slot) == id
 }
 
 // Whether a location cannot be the id's: it is out of range, its slot is not held, or its owner is another. Zero is no location, and fine.
@@ -56,12 +79,5 @@ pub fn bad_location(
     let Unpacked::At(address) = SlabAddress::unpack(slots, location) else {
         return location != 0;
     };
-    let slab = address.slab;
-    let slot = address.slot;
-    let hint = get(tallies, HINT, slab + 1) as usize;
-    let waiting = get(tallies, WAITING, slab + 1);
-    if !id_allocator::is_held(slab_marks(slot_marks, slots, slab), hint, waiting, slot) {
-        return true;
-    }
-    get(owners, slab * slots, slot) != id
+    !is_owner(slots, slot_marks, owners, tallies, id, address)
 }

@@ -1,11 +1,11 @@
--- The tests of an id and its location: each return simplifies the chain by the tests that led there. An id that is held is in range, so that its
--- location is read without a test. Assumes nothing.
-use mathlib.Core.Path.{sym, _∙_}
+-- The tests of an id and of what its location unpacks to: each return is the law of its case. An id that is held is in range, so that its location is
+-- read without a test. Assumes nothing.
+use mathlib.Core.Path.{sym, ap, _∙_}
 use native.Mathlib.Omega.{arith}
-use borrow.Author.Tests.{not-true, not-false, eq-eqb, ne-eqb}
-use Rattle.model.specs.Verdict.{test, _⨾_}
-use Rattle.lookup.specs.Lookup.{lookedIn}
-use Rattle.lookup.proofs.Laws.{heldIn-lt}
+use borrow.Author.Tests.{not-true, not-false}
+use Rattle.refusal.specs.Refusals.{refusal}
+use Rattle.lookup.specs.declared.Looked.the-variants as L
+use Rattle.lookup.proofs.Laws.{heldIn-lt, located-free, located-none, located-own, located-other}
 use borrow.Author.Needs.{needs}
 use Rattle.lookup.proofs.locate.Statement.{statement}
 use Rattle.lookup.proofs.locate.Tie as tie
@@ -17,8 +17,9 @@ of-requires : tie.Need-of-requires
 of-requires c κs = search needs
 
 returns : tie.Need-returns
-unfolding lookedIn test _⨾_
-returns c = simp (c .of .ensures, sym (c .before .before .held-id .ensures) ∙ not-true _ (c .before .if1 .taken))
+returns c =
+    let a = c .before .before .before .before .before .before .before .before .args in
+    ap L.Refused (c .of .ensures) ∙ located-free (a .caps .ids) (a .caps .slots) (a .id-marks .now) (a .locations .now) (a .slot-marks .now) (a .owners .now) (a .tallies .now) (a .id) (sym (c .before .before .held-id .ensures) ∙ not-true _ (c .before .if1 .taken))
 
 mul-location : tie.Need-mul-location
 mul-location c =
@@ -31,26 +32,45 @@ shared-slice-read-location c =
     let l = c .before .before .before .before .before .before .before .before .pre in
     omega (arith, h, l)
 
+unpack-requires : tie.Need-unpack-requires
+unpack-requires c κs = search needs
+
+enum-known-address : tie.Need-enum-known-address
+enum-known-address c = search needs
+
+without-address-requires : tie.Need-without-address-requires
+without-address-requires c κs = search needs
+
 of-requires-2 : tie.Need-of-requires-2
 of-requires-2 c κs = search needs
 
 returns-2 : tie.Need-returns-2
-unfolding lookedIn test _⨾_
-returns-2 c = simp (c .of2 .ensures, sym (c .before .before .before .before .held-id .ensures) ∙ not-false _ (c .before .before .before .if1 .left), eq-eqb _ _ (c .before .if2 .taken))
+returns-2 c =
+    let a = c .before .before .before .before .before .before .before .before .before .before .before .before .args in
+    let held = sym (c .before .before .before .before .before .before .held-id .ensures) ∙ not-false _ (c .before .before .before .before .before .if1 .left) in
+    ap L.Refused (c .of2 .ensures ∙ ap (λ n. refusal n 0) (c .before .without-address .ensures))
+    ∙ located-none (a .caps .ids) (a .caps .slots) (a .id-marks .now) (a .locations .now) (a .slot-marks .now) (a .owners .now) (a .tallies .now) (a .id) held (c .before .before .before .unpack .result) (c .before .before .before .unpack .ensures) (c .before .before .match .keys2)
 
-bad-location-requires : tie.Need-bad-location-requires
-bad-location-requires c κs = search needs
+is-owner-requires : tie.Need-is-owner-requires
+is-owner-requires c κs = search needs
 
 of-requires-3 : tie.Need-of-requires-3
 of-requires-3 c κs = search needs
 
 returns-3 : tie.Need-returns-3
-unfolding lookedIn test _⨾_
-returns-3 c = simp (c .of3 .ensures, sym (c .before .before .before .before .before .before .held-id .ensures) ∙ not-false _ (c .before .before .before .before .before .if1 .left), ne-eqb _ _ (c .before .before .before .if2 .left), sym (c .before .before .bad-location .ensures) ∙ c .before .if3 .taken)
+returns-3 c =
+    let a = c .before .before .before .before .before .before .before .before .before .before .before .before .before .before .before .args in
+    let held = sym (c .before .before .before .before .before .before .before .before .before .held-id .ensures) ∙ not-false _ (c .before .before .before .before .before .before .before .before .if1 .left) in
+    let own = sym (c .before .before .is-owner .ensures) ∙ not-true _ (c .before .if2 .taken) in
+    ap L.Refused (c .of3 .ensures)
+    ∙ located-other (a .caps .ids) (a .caps .slots) (a .id-marks .now) (a .locations .now) (a .slot-marks .now) (a .owners .now) (a .tallies .now) (a .id) held _ (sym (c .before .before .before .before .before .before .unpack .ensures) ∙ c .before .before .before .before .address .given .1) own
 
 returns-4 : tie.Need-returns-4
-unfolding lookedIn test _⨾_
-returns-4 c = simp (sym (c .before .before .before .before .before .held-id .ensures) ∙ not-false _ (c .before .before .before .before .if1 .left), ne-eqb _ _ (c .before .before .if2 .left), sym (c .before .bad-location .ensures) ∙ c .if3 .left)
+returns-4 c =
+    let a = c .before .before .before .before .before .before .before .before .before .before .before .before .before .before .args in
+    let held = sym (c .before .before .before .before .before .before .before .before .held-id .ensures) ∙ not-false _ (c .before .before .before .before .before .before .before .if1 .left) in
+    let own = sym (c .before .is-owner .ensures) ∙ not-false _ (c .if2 .left) in
+    located-own (a .caps .ids) (a .caps .slots) (a .id-marks .now) (a .locations .now) (a .slot-marks .now) (a .owners .now) (a .tallies .now) (a .id) held _ (sym (c .before .before .before .before .before .unpack .ensures) ∙ c .before .before .before .address .given .1) own
 
 pub locate-spec : {M : Type 1} → statement M
 locate-spec =
@@ -61,9 +81,12 @@ locate-spec =
     returns
     mul-location
     shared-slice-read-location
+    unpack-requires
+    enum-known-address
+    without-address-requires
     of-requires-2
     returns-2
-    bad-location-requires
+    is-owner-requires
     of-requires-3
     returns-3
     returns-4)

@@ -1,6 +1,6 @@
 -- The first row whose id's present location cannot be its own. The invariant: the first bad row from row i on is the first bad row of all;
 -- what is left of n falls. Assumes nothing.
-use mathlib.Core.Path.{_≡_, _∙_}
+use mathlib.Core.Path.{_≡_, refl, sym, _∙_}
 use native.Mathlib.Omega.{arith}
 use mathlib.Core.Bool.{true, false}
 use Prim.Native.Nat.{_-_, _≤_}
@@ -8,7 +8,7 @@ use native.Mathlib.Nat.{sub-zero}
 use Rattle.batch_kept.specs.Kept.{firstBad, keptFrom}
 use Rattle.batch_kept.proofs.Laws.{firstBad-here, firstBad-next, firstBad-none}
 use Rattle.commit.specs.Commit.{notOwn}
-use Rattle.commit.proofs.Laws.{notOwn-read}
+use Rattle.commit.proofs.Laws.{notOwn-read, ownAs-refused, ownAs-passed}
 use Rattle.commit.proofs.check.own_rows.Statement.{statement}
 use Rattle.commit.proofs.check.own_rows.Tie as tie
 
@@ -30,19 +30,23 @@ get-requires c κs = search
 get-requires-2 : tie.Need-get-requires-2 Inv-loop μ-loop
 get-requires-2 c κs = search
 
-bad-location-requires : tie.Need-bad-location-requires Inv-loop μ-loop
-bad-location-requires c κs = search
+own-location-requires : tie.Need-own-location-requires Inv-loop μ-loop
+own-location-requires c κs = search
 
-at-requires : tie.Need-at-requires Inv-loop μ-loop
-at-requires c κs = search
+enum-known-own : tie.Need-enum-known-own Inv-loop μ-loop
+enum-known-own c = search
 
 returns : tie.Need-returns Inv-loop μ-loop
 returns c =
-    let a = c .before .before .before .before .before .before .before .before .before .before .before .before .args in
-    let i = c .before .before .before .before .before .before .loop .i in
+    let a = c .before .before .before .before .before .before .before .before .before .before .before .before .before .args in
+    let i = c .before .before .before .before .before .before .before .loop .i in
     let f = notOwn (a .slots) (a .locations .now) (a .slot-marks .now) (a .owners .now) (a .tallies .now) in
-    let bad = notOwn-read _ _ _ _ _ _ _ _ _ _ true (c .before .before .before .before .get .ensures) (c .before .before .before .get2 .ensures) (c .before .before .bad-location .ensures) (c .before .if1 .taken) in
-    simp (c .at .ensures, c .before .before .before .before .before .before .loop .inv .1, firstBad-here f (a .batch .now) (a .n) i (c .before .before .before .before .before .loop-test .taken) bad)
+    let told = ownAs-refused _ i _ (sym (c .before .before .before .own-location .ensures) ∙ c .before .own .given .1) in
+    let bad = notOwn-read _ _ _ _ _ _ _ _ _ _ true (c .before .before .before .before .before .get .ensures) (c .before .before .before .before .get2 .ensures) refl (told .0) in
+    simp (told .1, c .before .before .before .before .before .before .before .loop .inv .1, firstBad-here f (a .batch .now) (a .n) i (c .before .before .before .before .before .before .loop-test .taken) bad)
+
+enum-told : tie.Need-enum-told Inv-loop μ-loop
+enum-told c = search
 
 add-i : tie.Need-add-i Inv-loop μ-loop
 add-i c = omega arith
@@ -52,12 +56,13 @@ loop-less c = omega arith
 
 loop-again : tie.Need-loop-again Inv-loop μ-loop
 loop-again c =
-    let a = c .before .before .before .before .before .before .before .before .before .before .before .args in
-    let i = c .before .before .before .before .before .loop .i in
-    let f = notOwn (a .slots) (a .locations .now) (a .slot-marks .now) (a .owners .now) (a .tallies .now) in (
+    let a = c .before .before .before .before .before .before .before .before .before .before .before .before .args in
+    let i = c .before .before .before .before .before .before .loop .i in
+    let f = notOwn (a .slots) (a .locations .now) (a .slot-marks .now) (a .owners .now) (a .tallies .now) in
+    let told = ownAs-passed _ i (sym (c .before .before .own-location .ensures) ∙ c .enum-told .given .1) in (
       omega arith,
-      c .before .before .before .before .before .loop .inv .1 ∙ firstBad-next f (a .batch .now) (a .n) i (c .before .before .before .before .loop-test .taken)
-          (notOwn-read _ _ _ _ _ _ _ _ _ _ false (c .before .before .before .get .ensures) (c .before .before .get2 .ensures) (c .before .bad-location .ensures) (c .if1 .left)),
+      c .before .before .before .before .before .before .loop .inv .1 ∙ firstBad-next f (a .batch .now) (a .n) i (c .before .before .before .before .before .loop-test .taken)
+          (notOwn-read _ _ _ _ _ _ _ _ _ _ false (c .before .before .before .before .get .ensures) (c .before .before .before .get2 .ensures) refl told),
     )
 
 returns-2 : tie.Need-returns-2 Inv-loop μ-loop
@@ -74,9 +79,10 @@ own-rows-spec =
     loop-holds
     get-requires
     get-requires-2
-    bad-location-requires
-    at-requires
+    own-location-requires
+    enum-known-own
     returns
+    enum-told
     add-i
     loop-less
     loop-again
