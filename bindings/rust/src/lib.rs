@@ -28,7 +28,8 @@
 //!     store.objects_to_defrag(0.75)?.iter().map(|(id, at)| (*id, at.slab(), at.slot())).collect();
 //! assert_eq!(moved, [(6, 0, 5), (8, 0, 7)]);
 //!
-//! // The live rows as bytes; a store opened from them on another machine places as this one does.
+//! // The live rows as bytes. This store is at rest: no batch is open, nothing is pending and every id is stored. So a store of the same capacities
+//! // that is opened from them on another machine places as this one does.
 //! let bytes = store.snapshot()?;
 //! let mut laptop = Store::from_snapshot(9, 8, &bytes)?;
 //! assert_eq!(laptop.allocate_object_id()?, store.allocate_object_id()?);
