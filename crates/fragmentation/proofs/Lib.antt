@@ -1,4 +1,3 @@
 pub mod LawsCut
 pub mod LawsCutoff
-pub mod Cases
 pub mod Outcomes

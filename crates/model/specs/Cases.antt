@@ -1,4 +1,4 @@
--- Document 01, "Cases": all that are marked P, the run whole and the easy slips; the edges of a cut, and what the requests say of keys: one table of what is
+-- Document 01, "Cases": all that are marked P, the run whole and the easy slips; the edges of a cutoff and of a cut, and what the requests say of keys: one table of what is
 -- asked and what the documents say. proofs/Computed.antt has the one claim about it, `cases-hold`. Assumes nothing.
 use mathlib.Core.Path.{_≡_}
 use mathlib.Core.Bool.{true, false}
@@ -108,6 +108,10 @@ half = fin false 1 (negsuc 0)
 abbrev pub aboveNineTenths : Float
 aboveNineTenths = fin false 15099495 (negsuc 23)
 
+-- bits 1: the smallest f32 above 0
+abbrev pub smallest : Float
+smallest = fin false 1 (negsuc 148)
+
 -- three ids stored in one batch, 2 freed in a second
 abbrev pub stored3 : List Call
 stored3 = newId ∷ newId ∷ newId ∷ stores (1 ∷ 2 ∷ 3 ∷ []) ∷ commit ∷ frees (2 ∷ []) ∷ commit ∷ []
@@ -156,6 +160,8 @@ cases =
     call (state 9 4 stored3) newId (granted (gave 4)) ∷
     -- P9
     defrags 3 8 threeQuarters (From 4) ∷ defrags 4 8 half Nothing ∷
+    -- the quotient, rounded, reaches the tip; the smallest ratio finds only a slab with nothing live too empty
+    defrags 9 10 aboveNineTenths Nothing ∷ defrags 0 65536 smallest (From 0) ∷ defrags 1 65536 smallest Nothing ∷
     -- P10 as request 2026-05 reads it: slab 0, whose slots have 64 bytes, high mark 99, t 80, the tip
     truncates 0 99 80 40 (cut 2944 3456) ∷ truncates 0 99 80 17 (cut 1280 5120) ∷ truncates 0 99 80 16 (cut 1024 5376) ∷
     -- one slot in use: 1 percent of 100 slots, less than 1 of 101
