@@ -17,7 +17,7 @@ use Rattle.keys.specs.Keys.{longIn, allStored}
 use Rattle.address.specs.Address.{slabs}
 use Rattle.marks.specs.Marks.{isTaken, countIf}
 use Rattle.marks.proofs.LawsCount.{countIf-set, countIf-le}
-use Rattle.model.specs.Store.{Store, Update, Row, Offer, Rows, Question, lookup, counters, defrag, snapshotLength, snapshot, Call, newId, release, offer, commit, abandon, fresh, rebuild, ask, truncation, report}
+use Rattle.model.specs.Store.{Store, Update, Row, Offer, Rows, Question, lookup, lookups, counters, defrag, snapshotLength, snapshot, Call, newId, release, offer, commit, abandon, fresh, rebuild, ask, truncation, report}
 use Rattle.model.specs.Verdict.{Verdict, ok, refuse, _⨾_, test}
 use Rattle.model.specs.Tables.{mostUpdates, mostOpened, inIds, badLocation, kept, pairs}
 use Rattle.model.specs.Batches.{updatesOf, updatesIn, updates, room, commitRows, abandonRows}
@@ -159,6 +159,7 @@ ask-small : (s : Store) (q : Question) → s .ids ≤ 65536 → Small 65537 (ask
 unfolding askRefusal
 ask-small s (lookup i row) ids =
     small-first _ _ 1 _ (omega arith) (omega arith) (λ _. small-first _ _ 8 _ (omega arith) (omega arith) (λ _. small-test _ _ 13 0 (omega arith) (omega arith)))
+ask-small s (lookups p) ids = small-first _ _ 1 _ (omega arith) (omega arith) (λ _. small-test _ _ 15 0 (omega arith) (omega arith))
 ask-small s counters ids = small _ _ (omega arith) (omega arith)
 ask-small s snapshotLength ids = small-test _ _ 11 0 (omega arith) (omega arith)
 ask-small s (snapshot file) ids =

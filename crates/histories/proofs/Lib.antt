@@ -18,6 +18,7 @@ pub mod TalliedSlots
 pub mod TalliedCalls
 pub mod Tallied
 pub mod MovesFit
+pub mod Pages
 pub mod Smallest
 pub mod Examples
 pub mod Lent

@@ -20,11 +20,11 @@ use Rattle.fragmentation.specs.Cutoff.{isRatio}
 use Rattle.model.specs.Batches.{updates, idOf, noClass, room, badRow, commitRows, abandonRows, takenBy, place, updatesIn}
 use Rattle.model.specs.Columns.{carriesFor, withOfferedKeys, withRebuiltKeys}
 use Rattle.model.specs.Ids.{nextId}
-use Rattle.model.specs.Questions.{askRefusal}
+use Rattle.model.specs.Questions.{unfound, askRefusal}
 use Rattle.model.specs.Rebuild.{rows, rowsIn}
 use Rattle.model.specs.Snapshots.{thoseFrom, storedIds, snapshotRows}
 use Rattle.model.specs.Step.{refusalOf, refusal, slabRefusal}
-use Rattle.model.specs.Store.{Store, withCarried, Update, Row, Offer, Rows, Question, lookup, counters, defrag, snapshotLength, snapshot, Call, newId, release, offer, commit, abandon, rebuild}
+use Rattle.model.specs.Store.{Store, withCarried, Update, Row, Offer, Rows, Question, lookup, lookups, counters, defrag, snapshotLength, snapshot, Call, newId, release, offer, commit, abandon, rebuild}
 use Rattle.model.specs.Tables.{mostUpdates, mostOpened, kept, badLocation, locationOf, badAt, isOpen, inIds, heldId}
 use Rattle.model.specs.Tests.{shape, lists, asLong, noneOpen, oneOpen}
 use Rattle.model.specs.Truncation.{highMark, isTarget}
@@ -181,10 +181,15 @@ module _ (s t : Store) (e : Same s t) (vs : Inv s) (vt : Inv t) where
   pub stored-same : storedIds s ≡ storedIds t
   stored-same = λ k. thoseFrom (λ i. held-same i k && not (eqb (loc-same i k) 0)) (e .ids k) 0
 
+  -- and so is a lookup of one id
+  pub unfound-same : (i : ℕ) → unfound s i ≡ unfound t i
+  unfound-same i = λ k. test (not (held-same i k) || eqb (loc-same i k) 0) noSuchId 0 ⨾ test (bad-same i k) tablesDisagree 0
+
   -- a question is refused alike
   pub ask-same : (q : Question) → askRefusal s q ≡ askRefusal t q
   unfolding askRefusal
-  ask-same (lookup i row) = λ k. lists (eqb (length row) width) ⨾ test (not (held-same i k) || eqb (loc-same i k) 0) noSuchId 0 ⨾ test (bad-same i k) tablesDisagree 0
+  ask-same (lookup i row) = λ k. lists (eqb (length row) width) ⨾ unfound-same i k
+  ask-same (lookups p) = refl
   ask-same counters = refl
   ask-same (defrag r is ls) = λ k.
       lists (eqb (suc (length is)) (e .ids k) && asLong is ls) ⨾ none-open k ⨾ test (not (isRatio r)) ratioOutOfRange 0

@@ -20,12 +20,12 @@ use Rattle.id_allocator.specs.Written.{opened}
 use Rattle.model.specs.Batches.{applyRow, applyRows, afterOffer, idOf, afterCommit, afterAbandon, updatesIn}
 use Rattle.model.specs.Ids.{afterNewId, nextId, afterRelease}
 use Rattle.model.specs.Columns.{rebuiltColumn}
-use Rattle.model.specs.Questions.{askRefusal, reply}
+use Rattle.model.specs.Questions.{unfound, toldBy, toldOf, askRefusal, reply}
 use Rattle.model.specs.Rebuild.{rebuilt, rowsIn, freshStore}
 use Rattle.model.specs.Step.{next, refusalOf, refusal, grant, effect, answer, answerBy, unless, slabRefusal}
-use Rattle.model.specs.Store.{Store, withCarried, Row, Batch, withBatch, Update, Question, lookup, counters, defrag, snapshotLength, snapshot, Call, newId, release, offer, commit, abandon, fresh, rebuild, ask, truncation, report}
-use Rattle.model.specs.Store.{done, gave, found, placed, moves, wrote}
-use Rattle.model.specs.Tables.{write, locationOf, heldId, shut, writeAll, kept, pairs, locationsOf, slabTip}
+use Rattle.model.specs.Store.{Store, withCarried, Row, Batch, withBatch, Update, Question, lookup, lookups, counters, defrag, snapshotLength, snapshot, Call, newId, release, offer, commit, abandon, fresh, rebuild, ask, truncation, report}
+use Rattle.model.specs.Store.{done, gave, found, told, placed, moves, wrote}
+use Rattle.model.specs.Tables.{write, locationOf, heldId, shut, writeAll, kept, pairs, locationsOf, slabTip, carriedOf}
 use Rattle.model.specs.Tests.{shape}
 use Rattle.model.specs.Truncation.{highMark, withHigh, cutAt, keeps}
 use Rattle.model.specs.Verdict.{Verdict, ok, refuse, _⨾_, test}
@@ -35,7 +35,7 @@ use Rattle.histories.specs.Invariant.{Inv}
 use Rattle.histories.specs.Statements.{seen, veil, shown, answers}
 use Rattle.histories.proofs.KeptBatches.{kept-offer}
 use Rattle.histories.proofs.Reached.{keep-next}
-use Rattle.histories.proofs.Same.{Same, drop-set, same-refl, drop-set-zero, next-same, taken-same, same-trans, shapes, slab-same, ask-same, rest-newId, rest-release, rest-offer, rest-commit, rest-abandon, rest-rebuild, refusal-by, loc-same, same-sym, stored-same}
+use Rattle.histories.proofs.Same.{Same, drop-set, same-refl, drop-set-zero, next-same, taken-same, same-trans, shapes, slab-same, ask-same, rest-newId, rest-release, rest-offer, rest-commit, rest-abandon, rest-rebuild, refusal-by, loc-same, same-sym, stored-same, unfound-same}
 use Rattle.histories.proofs.SameMoves.{allMoves-same}
 use Rattle.histories.proofs.SameRows.{Alike, KeptAlike, equal-alike, closed-alike, offer-alike, commit-alike, entries-alike}
 
@@ -178,18 +178,36 @@ report-seen s t e vs vt k d =
     keeping : Store → Verdict
     keeping x = test (keeps (cutAt k (highMark x k) d (slabTip x k))) nothingToCut 0
 
--- a lookup that is granted finds a location
-found-one : (s : Store) (i : ℕ) (row : List ℕ) → refusal s (ask (lookup i row)) ≡ ok → locationOf s i ≢ 0
-unfolding refusalOf askRefusal
-found-one s i row e =
-    let d = test-ok _ _ _ (first-ok _ _ (then-ok _ _ (granted-rest s (ask (lookup i row)) e))) in
+-- an id that is found has a location
+found-one : (s : Store) (i : ℕ) → unfound s i ≡ ok → locationOf s i ≢ 0
+found-one s i e =
+    let d = test-ok _ _ _ (first-ok _ _ e) in
     eqb-false (locationOf s i) 0 (or-false (not (heldId s i)) (eqb (locationOf s i) 0) d .1)
+
+granted-found : (s : Store) (i : ℕ) (row : List ℕ) → refusal s (ask (lookup i row)) ≡ ok → unfound s i ≡ ok
+unfolding refusalOf askRefusal
+granted-found s i row e = then-ok _ _ (granted-rest s (ask (lookup i row)) e)
+
+-- what a page is told of one id: of a refused one nothing of its row is told
+told-alike : (s t : Store) → Alike s t → Inv s → Inv t → (i : ℕ) → toldOf s i ≡ toldOf t i
+told-alike s t e vs vt i =
+    go (unfound s i) (λ o. e .rows i (found-one s i o))
+    ∙ (λ k. toldBy (unfound-same s t (e .same) vs vt i k) (loc-same s t (e .same) vs vt i k) (carriedOf t i))
+  where
+    go : (v : Verdict) → (v ≡ ok → carriedOf s i ≡ carriedOf t i) → toldBy v (locationOf s i) (carriedOf s i) ≡ toldBy v (locationOf s i) (carriedOf t i)
+    go ok f = ap (toldBy ok (locationOf s i)) (f refl)
+    go (refuse n j) f = refl
+
+tolds-alike : (s t : Store) → Alike s t → Inv s → Inv t → (is : List ℕ) → map (toldOf s) is ≡ map (toldOf t) is
+tolds-alike s t e vs vt [] = refl
+tolds-alike s t e vs vt (i ∷ is) = λ k. told-alike s t e vs vt i k ∷ tolds-alike s t e vs vt is k
 
 -- what a question grants
 reply-seen : (s t : Store) → Alike s t → Inv s → Inv t → (q : Question) → refusal s (ask q) ≡ ok
     → seen (ask q) (granted (reply s q)) ≡ seen (ask q) (granted (reply t q))
 unfolding reply
-reply-seen s t e vs vt (lookup i row) r = λ k. shown (granted (found (loc-same s t (e .same) vs vt i k) (e .rows i (found-one s i row r) k)))
+reply-seen s t e vs vt (lookup i row) r = λ k. shown (granted (found (loc-same s t (e .same) vs vt i k) (e .rows i (found-one s i (granted-found s i row r)) k)))
+reply-seen s t e vs vt (lookups p) r = ap (λ ts. shown (granted (told ts))) (tolds-alike s t e vs vt (p .ids))
 reply-seen s t e vs vt counters r = refl
 reply-seen s t e vs vt (defrag r is ls) x = ap (λ ms. shown (granted (moves ms))) (allMoves-same s t (e .same) vs vt r)
 reply-seen s t e vs vt snapshotLength r = ap (λ is. shown (granted (gave (fileLength version2 (length is))))) (stored-same s t (e .same) vs vt)

@@ -3,10 +3,10 @@
 use mathlib.Core.Path.{_≡_}
 use mathlib.Core.Logic.{_≢_}
 use mathlib.Core.Bool.{Bool, true, false, cond}
-use mathlib.Core.List.{List, [], _∷_, List·Memᴰ}
+use mathlib.Core.List.{List, [], _∷_, List·Memᴰ, map}
 use Prim.Native.Nat.{ℕ, suc, _+_, _-_, _*_, _/_, _%_, _^_, _≤_, _<_}
 use lib.Dec.{eqb}
-use lib.ListN.{length, getD, set, take}
+use lib.ListN.{length, getD, set, take, replicate}
 use lib.Ieee.{Float}
 use Rattle.refusal.specs.Outcomes.{granted, refused}
 use Rattle.refusal.specs.Refusals.{noneFree, nothingToCut, keyTooLong}
@@ -17,8 +17,8 @@ use Rattle.keys.specs.Keys.{longIn, normalRows, allStored, isNormal}
 use Rattle.sizes.specs.Sizes.{slabFor}
 use Rattle.address.specs.Address.{unit, packing, slabs}
 use Rattle.marks.specs.Marks.{isFree, isTaken, countIf, tip}
-use Rattle.model.specs.Store.{Store, Update, put, free, Row, Offer, gave, placed, Answer}
-use Rattle.model.specs.Store.{Call, newId, release, offer, commit, abandon, fresh, rebuild, ask, truncation, report}
+use Rattle.model.specs.Store.{Store, Update, put, free, Row, Offer, Page, Told, gave, told, placed, Answer}
+use Rattle.model.specs.Store.{Call, newId, release, offer, commit, abandon, fresh, rebuild, ask, lookup, lookups, truncation, report}
 use Rattle.model.specs.Verdict.{Verdict, ok, refuse, testsFrom}
 use Rattle.model.specs.Tables.{capacities, locationOf, heldId, idsOf, locationsOf, isOpen}
 use Rattle.model.specs.Lending.{everyTable, sized}
@@ -26,6 +26,7 @@ use Rattle.model.specs.Batches.{updatesIn}
 use Rattle.model.specs.Rebuild.{rowsIn, columns, freshStore}
 use Rattle.model.specs.Defrag.{allMoves}
 use Rattle.model.specs.Questions.{asksHistory}
+use Rattle.model.specs.Outcomes.{valuesOf, listsOf, nth}
 use Rattle.model.specs.Step.{refusal, answer, next, after, state}
 use Rattle.model.specs.Memory.{Memory, read}
 use Rattle.model.specs.MemoryAfter.{memoryAfter}
@@ -239,3 +240,15 @@ AbandonMet =
 
 abbrev pub MovesFit : Type 0
 MovesFit = (s : Store) (r : Float) → capacities (s .ids) (s .slots) ≡ true → length (allMoves s r) ≤ s .ids - 1
+
+-- ---- 6. a page is as many lookups (Pages.page-rows), whatever the tables hold
+
+-- a lookup's answer as a row: 0, its value and its list; or its number, and zeros
+abbrev pub rowOf : Answer → Told
+rowOf (granted g) = record { number = 0; location = getD (valuesOf g) 0 0; carried = nth 0 (listsOf g) }
+rowOf (refused n i) = record { number = n; location = 0; carried = replicate width 0 }
+
+-- a row for each id, in the order asked: that of the lookup of this id alone, so that no row depends on another, and a repeated id has its row again
+abbrev pub PageRows : Type 0
+PageRows = (s : Store) (p : Page) (ts : List Told) (row : List ℕ) → answer s (ask (lookups p)) ≡ granted (told ts) → length row ≡ width
+    → ts ≡ map (λ (i : ℕ). rowOf (answer s (ask (lookup i row)))) (p .ids)

@@ -2,7 +2,7 @@
 -- two numbers at once, but two answers only part by part, and computes the whole history again for each part. Assumes nothing.
 use mathlib.Core.Path.{_≡_, refl, sym, ap}
 use mathlib.Core.Bool.{Bool, true, false, _&&_}
-use mathlib.Core.List.{List, [], _∷_}
+use mathlib.Core.List.{List, [], _∷_, map}
 use Prim.Native.Nat.{ℕ}
 use lib.Dec.{eqb}
 use lib.ListN.{getD, drop}
@@ -10,7 +10,7 @@ use borrow.Author.Tests.{eqb-true}
 use Rattle.refusal.specs.Outcomes.{Values, granted, refused}
 use Rattle.refusal.proofs.Outcomes.{one-by}
 use Rattle.refusal.proofs.Tests.{clash, and-true}
-use Rattle.model.specs.Store.{Cut, keep, cut, done, gave, found, placed, counts, moves, wrote, truncated, Answer}
+use Rattle.model.specs.Store.{Cut, keep, cut, Told, done, gave, found, told, placed, counts, moves, wrote, truncated, Answer}
 use Rattle.model.specs.Tables.{idsOf, locationsOf}
 use Rattle.model.specs.Rebuild.{rowsOf}
 use Rattle.model.specs.Outcomes.{sumValues}
@@ -88,6 +88,16 @@ cut-back : (a : Cut) → cutIn (cutCode a) ≡ a
 cut-back keep = refl
 cut-back (cut n b) = refl
 
+abbrev toldCode : Told → List ℕ
+toldCode t = t .number ∷ t .location ∷ t .carried
+
+abbrev toldIn : List ℕ → Told
+toldIn xs = record { number = getD xs 0 0; location = getD xs 1 0; carried = drop 2 xs }
+
+told-back : (ts : List Told) → map toldIn (map toldCode ts) ≡ ts
+told-back [] = refl
+told-back (t ∷ ts) = ap (λ (xs : List Told). t ∷ xs) (told-back ts)
+
 abbrev pub answerCode : Answer → Code
 answerCode (refused n i) = (0 ∷ n ∷ i ∷ []) ∷ []
 answerCode (granted done) = (1 ∷ []) ∷ []
@@ -97,7 +107,8 @@ answerCode (granted (placed ls)) = (4 ∷ []) ∷ ls ∷ []
 answerCode (granted (counts g f z)) = (5 ∷ sumValues z) ∷ g ∷ f ∷ []
 answerCode (granted (moves ms)) = (6 ∷ []) ∷ idsOf ms ∷ locationsOf ms ∷ []
 answerCode (granted (wrote bytes)) = (7 ∷ []) ∷ bytes ∷ []
-answerCode (granted (truncated c)) = (8 ∷ []) ∷ cutCode c
+answerCode (granted (told ts)) = (8 ∷ []) ∷ map toldCode ts
+answerCode (granted (truncated c)) = (9 ∷ []) ∷ cutCode c
 
 abbrev answerIn : Code → Answer
 answerIn c =
@@ -109,7 +120,8 @@ answerIn c =
     granted (counts (getD c 1 []) (getD c 2 [])
     (record { objectsAllocated = at c 1; objectsFreed = at c 2; heapSlotsAllocated = at c 3; heapSlotsFreed = at c 4 })) ∷
     granted (moves (rowsOf (getD c 1 []) (getD c 2 []))) ∷
-    granted (wrote (getD c 1 [])) ∷ []) (at c 0) (granted (truncated (cutIn (drop 1 c))))
+    granted (wrote (getD c 1 [])) ∷
+    granted (told (map toldIn (drop 1 c))) ∷ []) (at c 0) (granted (truncated (cutIn (drop 1 c))))
 
 answer-back : (a : Answer) → answerIn (answerCode a) ≡ a
 answer-back (refused n i) = refl
@@ -120,6 +132,7 @@ answer-back (granted (placed ls)) = refl
 answer-back (granted (counts g f z)) = refl
 answer-back (granted (moves ms)) = ap (λ x. granted (moves x)) (rowsOf-rows ms)
 answer-back (granted (wrote bytes)) = refl
+answer-back (granted (told ts)) = ap (λ x. granted (told x)) (told-back ts)
 answer-back (granted (truncated keep)) = refl
 answer-back (granted (truncated (cut n b))) = refl
 

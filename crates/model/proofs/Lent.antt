@@ -2,7 +2,7 @@
 -- rules. Assumes nothing.
 use mathlib.Core.Path.{ap, _≡_, refl, _∙_, sym}
 use mathlib.Core.Bool.{not, _&&_, _||_, Bool, cond, true, false}
-use mathlib.Core.List.{List, [], _∷_, _++_}
+use mathlib.Core.List.{List, [], _∷_, _++_, map}
 use Prim.Native.Nat.{_-_, ℕ, suc, zero, _*_, _+_}
 use lib.Dec.{ltb, eqb}
 use lib.ListN.{length, getD}
@@ -17,11 +17,11 @@ use Rattle.model.specs.Lending.{Lending, ifLent, lendingOf}
 use Rattle.model.specs.Lent.{lent, joined, chosen, lengthsFit, fits}
 use Rattle.model.specs.Memory.{Memory, read, batchOf, memoryOf, carrying, batchWords, tallyWords}
 use Rattle.model.specs.MemoryAfter.{memoryEffect, memoryAfter}
-use Rattle.model.specs.Questions.{askRefusal, reply}
+use Rattle.model.specs.Questions.{unfound, toldBy, toldOf, askRefusal, reply}
 use Rattle.model.specs.Step.{refusalOf, refusal, grant, answer, answerBy, unless}
-use Rattle.model.specs.Store.{Row, Store, withIdMarks, withCarried, Batch, withBatch, Question, lookup, counters, defrag, snapshotLength, snapshot, moves}
+use Rattle.model.specs.Store.{Row, Store, withIdMarks, withCarried, Batch, withBatch, Question, lookup, lookups, counters, defrag, snapshotLength, snapshot, Told, told, moves}
 use Rattle.model.specs.Store.{Call, newId, release, offer, commit, abandon, fresh, rebuild, ask, truncation, report}
-use Rattle.model.specs.Tables.{capacities, carriedBytes, live, slabTip, badAt, kept, heldId, locationOf}
+use Rattle.model.specs.Tables.{capacities, carriedBytes, live, slabTip, badAt, kept, heldId, locationOf, carriedOf}
 use Rattle.model.specs.Tests.{shape, lists, oneOpen}
 use Rattle.model.specs.Verdict.{test, _⨾_, ok, Verdict, refuse}
 use Rattle.model.proofs.Sizes.{shape-read}
@@ -85,11 +85,21 @@ lent-shape : (m : Memory) (c : Call) → shape (read (lent c m)) c ≡ shape (re
 unfolding lent
 lent-shape m c = shape-read c (lent c m) ∙ ap (λ b. test (not b) wrongShape 0) (lent-fits m (lendingOf c)) ∙ sym (shape-read c m)
 
+-- one id by its tables
+lent-unfound : (m : Memory) (i : ℕ) → unfound (read (lent (ask (lookup i [])) m)) i ≡ unfound (read m) i
+unfolding lent read
+lent-unfound m i = λ j.
+    test (not (heldId (read m) i) || eqb (locationOf (read m) i) 0) noSuchId 0 ⨾ test (badAt-tables (read m) (batchOf []) i (locationOf (read m) i) j) tablesDisagree 0
+
+lent-told : (m : Memory) (is : List ℕ) → map (toldOf (read (lent (ask (lookup 0 [])) m))) is ≡ map (toldOf (read m)) is
+unfolding lent read
+lent-told m [] = refl
+lent-told m (i ∷ is) = λ j. toldBy (lent-unfound m i j) (getD (m .locations) i 0) (carriedOf (read m) i) ∷ lent-told m is j
+
 lent-ask : (m : Memory) (q : Question) → askRefusal (read (lent (ask q) m)) q ≡ askRefusal (read m) q
 unfolding lent askRefusal read
-lent-ask m (lookup i row) = λ j.
-    lists (eqb (length row) width) ⨾ test (not (heldId (read m) i) || eqb (locationOf (read m) i) 0) noSuchId 0 ⨾
-    test (badAt-tables (read m) (batchOf []) i (locationOf (read m) i) j) tablesDisagree 0
+lent-ask m (lookup i row) = λ j. lists (eqb (length row) width) ⨾ lent-unfound m i j
+lent-ask m (lookups p) = refl
 lent-ask m counters = refl
 lent-ask m (defrag r is ls) = refl
 lent-ask m snapshotLength = refl
@@ -115,6 +125,7 @@ lent-refusal m c = λ i. lent-shape m c i ⨾ lent-rest m c i
 lent-reply : (m : Memory) (q : Question) → reply (read (lent (ask q) m)) q ≡ reply (read m) q
 unfolding lent reply read
 lent-reply m (lookup i row) = refl
+lent-reply m (lookups p) = ap told (lent-told m (p .ids))
 lent-reply m counters = refl
 lent-reply m (defrag r is ls) = ap moves (movesFrom-marks (read m) (read (lent (ask (defrag r is ls)) m) .idMarks) [] r slabs 0)
 lent-reply m snapshotLength = refl

@@ -1,17 +1,18 @@
--- Document 01, "Cases": all that are marked P, the run whole and the easy slips; the edges of a cutoff and of a cut, and what the requests say of keys: one table of what is
+-- Document 01, "Cases": all that are marked P, the run whole and the easy slips; the edges of a cutoff and of a cut, and what the requests say of keys and of pages: one table of what is
 -- asked and what the documents say. proofs/Computed.antt has the one claim about it, `cases-hold`. Assumes nothing.
 use mathlib.Core.Path.{_≡_}
 use mathlib.Core.Bool.{true, false}
 use mathlib.Core.List.{List, [], _∷_, _++_, map}
-use Prim.Native.Nat.{ℕ, _-_}
+use Prim.Native.Nat.{ℕ, _-_, _*_}
 use lib.ListN.{length, replicate}
 use lib.IntN.{negsuc}
 use lib.Ieee.{Float, fin}
 use Rattle.refusal.specs.Outcomes.{granted, refused}
-use Rattle.refusal.specs.Refusals.{refusal, tooLarge, noSuchId, repeatedId, noneFree, repeatedLocation, keyTooLong}
+use Rattle.refusal.specs.Refusals.{refusal, wrongShape, tooLarge, noSuchId, repeatedId, noneFree, tablesDisagree, tooMany, repeatedLocation, keyTooLong}
 use Rattle.sizes.specs.Sizes.{classOf}
 use Rattle.sizes.specs.declared.Class.{Class}
 use Rattle.sizes.specs.declared.Class.the-variants.{Slab, Refused}
+use Rattle.carried.specs.Carried.{width}
 use Rattle.address.specs.Address.{mostSlots, packing, packed, unpacked}
 use Rattle.address.specs.declared.Packed.{Packed}
 use Rattle.address.specs.declared.Packed.the-variants.{Location}
@@ -20,8 +21,8 @@ use Rattle.address.specs.declared.Unpacked.the-variants.{At}
 use Rattle.fragmentation.specs.Answer.{cutoffOf}
 use Rattle.fragmentation.specs.declared.Cutoff.{Cutoff}
 use Rattle.fragmentation.specs.declared.Cutoff.the-variants.{From, Nothing}
-use Rattle.model.specs.Store.{Store, Call, newId, release, offer, commit, rebuild, ask, lookup, counters, defrag, snapshotLength, Cut, keep, cut}
-use Rattle.model.specs.Store.{gave, found, placed, counts, moves, Answer}
+use Rattle.model.specs.Store.{Store, withOwners, Call, newId, release, offer, commit, rebuild, ask, lookup, lookups, counters, defrag, snapshotLength, Cut, keep, cut}
+use Rattle.model.specs.Store.{Told, gave, found, told, placed, counts, moves, Answer}
 use Rattle.model.specs.Rebuild.{columns}
 use Rattle.model.specs.Truncation.{cutAt}
 use Rattle.model.specs.Step.{answer, state}
@@ -134,6 +135,26 @@ nineOfTen =
 abbrev pub defragOf : Float → ℕ → Call
 defragOf r n = ask (defrag r (replicate n 0) (replicate n 0))
 
+-- a page that is asked for these ids; and with room for so many rows
+abbrev pub pageIn : ℕ → List ℕ → Call
+pageIn n is = ask (lookups (record { ids = is; numbers = replicate n 7; locations = replicate n 7; carried = replicate (n * width) 7 }))
+
+abbrev pub pageOf : List ℕ → Call
+pageOf is = pageIn (length is) is
+
+-- what it is told of an id that is stored, as `rowsFor` has its row, and of one that is refused
+abbrev pub storedAt : ℕ → ℕ → Told
+storedAt l i = record { number = 0; location = l; carried = keeping i (i ∷ 7 ∷ []) }
+
+abbrev pub refusedRow : ℕ → Told
+refusedRow n = record { number = n; location = 0; carried = replicate width 0 }
+
+-- ids 1, 3 and 4 at slots 0, 1 and 2 of slab 0, of which slot 1 has another owner
+abbrev pub disowned : Store
+disowned =
+    withOwners (state 9 4 (rebuild (columns ((1, packing 0 0) ∷ (3, packing 0 1) ∷ (4, packing 0 2) ∷ []) (rowsFor (1 ∷ 3 ∷ 4 ∷ []))) ∷ []))
+    (1 ∷ 2 ∷ 4 ∷ replicate 309 0)
+
 -- ---- the table
 
 unfoldable pub cases : List Case
@@ -198,6 +219,19 @@ cases =
     -- per row of a rebuild after the others
     call (state 9 4 []) (rebuild (columns ((1, packing 0 0) ∷ (3, packing 0 1) ∷ []) (bringing 1 [] ++ tooMuch))) (refused keyTooLong 1) ∷
     call (state 9 4 []) (rebuild (columns ((1, packing 0 0) ∷ (3, packing 0 0) ∷ []) (bringing 1 [] ++ tooMuch))) (refused repeatedLocation 1) ∷
+    -- request 2026-09: in the order asked; an id that is asked twice has two rows, and one that is refused spoils no other
+    call afterWhole (pageOf (6 ∷ 0 ∷ 8 ∷ 7 ∷ 6 ∷ 9 ∷ []))
+    (granted (told (storedAt (packing 0 5) 6 ∷ refusedRow noSuchId ∷ storedAt (packing 0 7) 8 ∷ refusedRow noSuchId ∷ storedAt (packing 0 5) 6 ∷
+    refusedRow noSuchId ∷ []))) ∷
+    call disowned (pageOf (1 ∷ 3 ∷ 4 ∷ [])) (granted (told (storedAt (packing 0 0) 1 ∷ refusedRow tablesDisagree ∷ storedAt (packing 0 2) 4 ∷ []))) ∷
+    -- a batch may be open: what it stores is not seen yet
+    call (state 9 4 (newId ∷ newId ∷ stores (1 ∷ []) ∷ commit ∷ stores (1 ∷ 2 ∷ []) ∷ [])) (pageOf (2 ∷ 1 ∷ []))
+    (granted (told (refusedRow noSuchId ∷ storedAt (packing 0 0) 1 ∷ []))) ∷
+    -- of no id, of 256 and of one more; 1 comes before 15
+    call (state 9 4 []) (pageOf []) (granted (told [])) ∷
+    call (state 9 4 []) (pageOf (replicate 256 1)) (granted (told (replicate 256 (refusedRow noSuchId)))) ∷
+    call (state 9 4 []) (pageOf (replicate 257 1)) (refused tooMany 0) ∷
+    call (state 9 4 []) (pageIn 256 (replicate 257 1)) (refused wrongShape 0) ∷
     -- after a rebuild 0 is free, and is not issued
     call (state 9 4 (rebuild (columns ((1, packing 0 0) ∷ (3, packing 0 1) ∷ []) (rowsFor (1 ∷ 3 ∷ []))) ∷ [])) newId (granted (gave 2)) ∷
     []

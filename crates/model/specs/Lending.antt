@@ -1,7 +1,7 @@
 -- Which tables each call is lent: said here, and nowhere else. Refusal 1 asks just these for their lengths (`shape` in Step), and the memory of
 -- a call's contract takes just these (`lentTo` in Lent). Assumes nothing.
 use mathlib.Core.Bool.{Bool, true, false, _&&_}
-use Rattle.model.specs.Store.{Store, Question, lookup, counters, defrag, snapshotLength, snapshot, Call, newId, release, offer, commit, abandon, fresh, rebuild}
+use Rattle.model.specs.Store.{Store, Question, lookup, lookups, counters, defrag, snapshotLength, snapshot, Call, newId, release, offer, commit, abandon, fresh, rebuild}
 use Rattle.model.specs.Store.{ask, truncation, report}
 use Rattle.model.specs.Tables.{idMarksFit, locationsFit, slotMarksFit, ownersFit, batchFits, talliesFit, carriedFits, capacities}
 
@@ -34,7 +34,7 @@ slabTables = lends false false true false true true false
 abbrev pub placeTables : Lending
 placeTables = lends true true true true false true false
 
--- and what a lookup does
+-- and what a lookup does, of one id or of a page
 abbrev pub rowTables : Lending
 rowTables = lends true true true true false true true
 
@@ -49,6 +49,7 @@ talliesAlone = lends false false false false false true false
 
 abbrev pub lentToAsk : Question → Lending
 lentToAsk (lookup i row) = rowTables
+lentToAsk (lookups p) = rowTables
 lentToAsk counters = talliesAlone
 lentToAsk (defrag r is ls) = moveTables
 lentToAsk snapshotLength = storedTables

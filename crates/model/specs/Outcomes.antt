@@ -1,9 +1,9 @@
 -- Document 01's number and values for each answer, and the lists that a call is lent for it. Assumes nothing.
-use mathlib.Core.List.{List, [], _∷_, _++_}
+use mathlib.Core.List.{List, [], _∷_, _++_, map}
 use Prim.Native.Nat.{ℕ, zero, suc}
 use lib.ListN.{length, drop}
 use Rattle.refusal.specs.Outcomes.{Values, granted, refused}
-use Rattle.model.specs.Store.{Sums, Cut, keep, cut, Grant, done, gave, found, placed, counts, moves, wrote, truncated, Answer}
+use Rattle.model.specs.Store.{Sums, Cut, keep, cut, Told, Grant, done, gave, found, told, placed, counts, moves, wrote, truncated, Answer}
 use Rattle.model.specs.Tables.{idsOf, locationsOf}
 
 abbrev pub sumValues : Sums → List ℕ
@@ -18,6 +18,7 @@ abbrev pub valuesOf : Grant → List ℕ
 valuesOf done = []
 valuesOf (gave n) = n ∷ []
 valuesOf (found l c) = l ∷ []
+valuesOf (told ts) = []
 valuesOf (placed ls) = []
 valuesOf (counts g f z) = sumValues z
 -- how many there are
@@ -25,11 +26,23 @@ valuesOf (moves ms) = length ms ∷ []
 valuesOf (wrote bytes) = []
 valuesOf (truncated c) = cutValues c
 
+-- what a page is told, list by list
+abbrev pub toldNumbers : List Told → List ℕ
+toldNumbers ts = map (λ (t : Told). t .number) ts
+
+abbrev pub toldLocations : List Told → List ℕ
+toldLocations ts = map (λ (t : Told). t .location) ts
+
+abbrev pub toldCarried : List Told → List ℕ
+toldCarried [] = []
+toldCarried (t ∷ ts) = t .carried ++ toldCarried ts
+
 -- the rows of each list that is lent for the answer
 abbrev pub listsOf : Grant → List (List ℕ)
 listsOf done = []
 listsOf (gave n) = []
 listsOf (found l c) = c ∷ []
+listsOf (told ts) = toldNumbers ts ∷ toldLocations ts ∷ toldCarried ts ∷ []
 listsOf (placed ls) = ls ∷ []
 listsOf (counts g f z) = g ∷ f ∷ []
 listsOf (moves ms) = idsOf ms ∷ locationsOf ms ∷ []

@@ -95,10 +95,19 @@ pub record Rows : Type 0 where
   pub locations : List ℕ
   pub carried : List ℕ
 
+-- Request 2026-09: ids in the order asked, and the lent lists for what is told of each: its number, its location, and what its row carries, these
+-- one after the other.
+pub record Page : Type 0 where
+  pub ids : List ℕ
+  pub numbers : List ℕ
+  pub locations : List ℕ
+  pub carried : List ℕ
+
 -- What only looks, and leaves the store as it is. Lending says of each what it is lent, Questions when it is refused and what it grants.
 pub data Question : Type 0 where
   -- an id, and the lent list for what its row carries
   lookup : ℕ → List ℕ → Question
+  lookups : Page → Question
   counters : Question
   -- the fill ratio, and the lent lists for ids and locations
   defrag : Float → List ℕ → List ℕ → Question
@@ -132,6 +141,12 @@ pub data Cut : Type 0 where
   -- the new length, and the bytes given back
   cut : ℕ → ℕ → Cut
 
+-- what a page is told of an id: 0, its location and what its row carries; or the number that a lookup of it is refused with, and zeros
+pub record Told : Type 0 where
+  pub number : ℕ
+  pub location : ℕ
+  pub carried : List ℕ
+
 -- what a call grants
 pub data Grant : Type 0 where
   done : Grant
@@ -139,6 +154,8 @@ pub data Grant : Type 0 where
   gave : ℕ → Grant
   -- a location, and what the row carries
   found : ℕ → List ℕ → Grant
+  -- of each id of a page, in the order asked
+  told : List Told → Grant
   -- the location of each update
   placed : List ℕ → Grant
   -- granted and freed of each allocator

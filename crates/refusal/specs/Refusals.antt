@@ -61,7 +61,7 @@ tablesDisagree = 13
 abbrev pub ratioOutOfRange : ℕ
 ratioOutOfRange = 14
 
--- over 256 updates
+-- over 256 updates, or ids of a page
 abbrev pub tooMany : ℕ
 tooMany = 15
 
