@@ -29,11 +29,11 @@ use Rattle.model.specs.Lending.{rowTables}
 use Rattle.model.specs.Lent.{fits}
 use Rattle.model.specs.Memory.{Memory, read}
 use Rattle.model.specs.Outcomes.{over, listIn}
-use Rattle.model.specs.Questions.{askRefusal, reply}
+use Rattle.model.specs.Questions.{unfound, askRefusal, reply}
 use Rattle.model.specs.Step as S
 use Rattle.model.specs.Step.{answer, answerBy, refusalOf, grant}
 use Rattle.model.specs.Store.{Call, ask, lookup, found, Answer}
-use Rattle.model.specs.Tables.{mostUpdates, badAt}
+use Rattle.model.specs.Tables.{mostUpdates}
 use Rattle.model.specs.Tests.{lists}
 use Rattle.model.specs.Verdict.{Verdict, ok, refuse, test, _⨾_}
 use Rattle.model.proofs.Sizes.{shape-read, fits-range, fits-slot-marks, fits-carried}
@@ -95,8 +95,28 @@ module _ (ids slots : ℕ) (idMarks locations slotMarks owners words : List ℕ)
       unfolding lookedIn test _⨾_
       located-other o = simp (h, stored, badIn-at slots slotMarks owners words i l a e, o)
 
+-- ---- one id of tables that fit
+abbrev pub lookedAt : Memory → ℕ → Verdict
+lookedAt m i = lookedIn (m .ids) (m .slots) (m .idMarks) (m .locations) (m .slotMarks) (m .owners) (m .tallies) i
+
+module _ (m : Memory) (f : fits rowTables m ≡ true) (i : ℕ) where
+  pub unfound-read : unfound (read m) i ≡ lookedAt m i
+  unfolding lookedIn read
+  unfound-read =
+      let l = getD (m .locations) i 0 in
+      λ k. test (not (heldIn-read m i k) || eqb l 0) noSuchId 0
+      ⨾ test (sym (badIn-read m i l (fits-range rowTables m f .slots-good) (fits-slot-marks rowTables m f)) k) tablesDisagree 0
+
+  found-below : lookedAt m i ≡ ok → i < m .ids
+  unfolding lookedIn
+  found-below o = heldIn-lt (m .ids) (m .idMarks) (m .tallies) i (not-false _ (or-false _ _ (test-ok _ _ _ (first-ok _ _ o)) .0))
+
+  -- the row of an id that is found is in the column
+  pub found-within : lookedAt m i ≡ ok → i * width + width ≤ length (m .carried)
+  found-within o = let low = found-below o in rw (fits-carried rowTables m f) (part-end width (m .ids + mostUpdates) i (omega arith))
+
 -- ---- a row written over one of its length
-over-whole : (xs t : List ℕ) → length xs ≡ length t → over xs t ≡ xs
+pub over-whole : (xs t : List ℕ) → length xs ≡ length t → over xs t ≡ xs
 over-whole xs t e = ap (λ n. xs ++ drop n t) e ∙ ap (λ (x : List ℕ). xs ++ x) (drop-length t) ∙ append-nil xs
 
 putRow-whole : (w : ℕ) (t r : List ℕ) → length t ≡ w → length r ≡ w → putRow w t 0 r ≡ r
@@ -115,32 +135,23 @@ module _ (m : Memory) (i : ℕ) (row : List ℕ) where
   Fits = (fits rowTables m && eqb (length row) width) ≡ true
 
   abbrev Said : Verdict
-  Said = lookedIn (m .ids) (m .slots) (m .idMarks) (m .locations) (m .slotMarks) (m .owners) (m .tallies) i
+  Said = lookedAt m i
 
-  abbrev rest : Verdict
-  rest = test (not (heldIn (m .ids) (m .idMarks) (m .tallies) i) || eqb (getD (m .locations) i 0) 0) noSuchId 0 ⨾ test (badAt (read m) i (getD (m .locations) i 0)) tablesDisagree 0
-
-  lookup-refusal : S.refusal (read m) asked ≡ (test (not (fits rowTables m && eqb (length row) width)) wrongShape 0 ⨾ rest)
-  unfolding S.refusal refusalOf askRefusal read
+  lookup-refusal : S.refusal (read m) asked ≡ (test (not (fits rowTables m && eqb (length row) width)) wrongShape 0 ⨾ unfound (read m) i)
+  unfolding S.refusal refusalOf askRefusal
   lookup-refusal =
-      (λ k. shape-read asked m k ⨾ lists (eqb (length row) width)
-      ⨾ test (not (heldIn-read m i k) || eqb (getD (m .locations) i 0) 0) noSuchId 0
-      ⨾ test (badAt (read m) i (getD (m .locations) i 0)) tablesDisagree 0)
-      ∙ tests-join (fits rowTables m) (eqb (length row) width) wrongShape 0 rest
+      (λ k. shape-read asked m k ⨾ lists (eqb (length row) width) ⨾ unfound (read m) i)
+      ∙ tests-join (fits rowTables m) (eqb (length row) width) wrongShape 0 (unfound (read m) i)
 
   -- refusal 1
   lookup-shape : (fits rowTables m && eqb (length row) width) ≡ false → S.refusal (read m) asked ≡ refuse wrongShape 0
   unfolding test _⨾_
-  lookup-shape e = lookup-refusal ∙ ap (λ b. test (not b) wrongShape 0 ⨾ rest) e
+  lookup-shape e = lookup-refusal ∙ ap (λ b. test (not b) wrongShape 0 ⨾ unfound (read m) i) e
 
   -- the others
   lookup-rest : Fits → S.refusal (read m) asked ≡ Said
-  unfolding test _⨾_ lookedIn
-  lookup-rest e =
-      let f = and-true (fits rowTables m) _ e .0 in
-      lookup-refusal ∙ ap (λ b. test (not b) wrongShape 0 ⨾ rest) e
-      ∙ (λ k. test (not (heldIn (m .ids) (m .idMarks) (m .tallies) i) || eqb (getD (m .locations) i 0) 0) noSuchId 0
-      ⨾ test (sym (badIn-read m i (getD (m .locations) i 0) (fits-range rowTables m f .slots-good) (fits-slot-marks rowTables m f)) k) tablesDisagree 0)
+  unfolding test _⨾_
+  lookup-rest e = lookup-refusal ∙ ap (λ b. test (not b) wrongShape 0 ⨾ unfound (read m) i) e ∙ unfound-read m (and-true (fits rowTables m) _ e .0) i
 
   -- ---- the answer, and the lent row
   abbrev pub Answers : Looked → List ℕ → Type 0
@@ -162,10 +173,6 @@ module _ (m : Memory) (i : ℕ) (row : List ℕ) where
     pub answers-refused : (r : Refusal) → looked ≡ L.Refused r → Answers (L.Refused r) row
     answers-refused r q = refused-leaves (r .number) (r .index) (lookup-rest f ∙ locatedAs-refused Said _ r (sym e ∙ q))
 
-    found-below : Said ≡ ok → i < m .ids
-    unfolding lookedIn
-    found-below o = heldIn-lt (m .ids) (m .idMarks) (m .tallies) i (not-false _ (or-false _ _ (test-ok _ _ _ (first-ok _ _ o)) .0))
-
     granted-answer : Said ≡ ok → answer (read m) asked ≡ granted (found (getD (m .locations) i 0) (part width (m .carried) i))
     unfolding answer grant reply read
     granted-answer o = ap (λ v. answerBy v (grant (read m) asked)) (lookup-rest f ∙ o)
@@ -175,9 +182,7 @@ module _ (m : Memory) (i : ℕ) (row : List ℕ) where
     found-row o =
         let a = and-true (fits rowTables m) _ f in
         let lr : length row ≡ width = eqb-true _ _ (a .1) in
-        let lc = fits-carried rowTables m (a .0) in
-        let low = found-below o in
-        let b : i * width + width ≤ length (m .carried) = rw lc (part-end width (m .ids + mostUpdates) i (omega arith)) in
+        let b = found-within m (a .0) i o in
         let lp = length-part-full width (m .carried) i b in
         (lp ∙ sym lr, ap (putRow width row 0) (rowIn-part width (m .carried) i b) ∙ putRow-whole width row _ lr lp)
 

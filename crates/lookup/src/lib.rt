@@ -59,7 +59,7 @@ fn fits(
 }
 
 // The number that a location without an address is refused with: zero means no object, and any other number is out of range.
-fn without_address(location: u64) -> u8
+pub fn without_address(location: u64) -> u8
     ensures { λ r. ⌜ r ≡ cond (eqb location 0) noSuchId tablesDisagree ⌝ }
 {
     if location == 0 {
