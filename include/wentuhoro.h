@@ -47,7 +47,7 @@ enum wentuhoro_refusal {
     WENTUHORO_NO_BATCH = 12,           /* none is open */
     WENTUHORO_TABLES_DISAGREE = 13,    /* the tables contradict each other, or a kept batch is none */
     WENTUHORO_RATIO_OUT_OF_RANGE = 14, /* a fill ratio or a target t out of range */
-    WENTUHORO_TOO_MANY = 15,           /* over 256 updates */
+    WENTUHORO_TOO_MANY = 15,           /* over 256 updates, or ids of a page */
     WENTUHORO_REPEATED_LOCATION = 16,  /* a rebuild row has an earlier row's location */
     WENTUHORO_NOTHING_TO_CUT = 17,     /* a cut reported where the test says keep */
     WENTUHORO_GAP_NOT_ZERO = 18,       /* bytes between object and frame are not zero */
@@ -67,6 +67,7 @@ static inline uint64_t wentuhoro_refusal_index(uint64_t status) { return status 
 #define WENTUHORO_MOST_IDS 65536   /* id capacity: 2 to this; ids run from 1 to capacity - 1 */
 #define WENTUHORO_MOST_SLOTS 65536 /* slot capacity, the same in every slab: 1 to this */
 #define WENTUHORO_MOST_UPDATES 256
+#define WENTUHORO_MOST_PAGE 256 /* ids of one wentuhoro_lookup_page */
 #define WENTUHORO_MOST_KEY 64 /* bytes of a key: 0 to this */
 #define WENTUHORO_COOKIE_BYTES 64
 
@@ -218,6 +219,16 @@ uint64_t wentuhoro_lookup(size_t ids, size_t slots, const uint8_t *id_marks, siz
                           size_t locations_len, const uint8_t *slot_marks, size_t slot_marks_len, const uint64_t *owners,
                           size_t owners_len, const uint64_t *tallies, size_t tallies_len, const uint8_t *carried, size_t carried_len,
                           uint64_t id, uint64_t *location, size_t location_len, uint8_t *row, size_t row_len);
+
+/* Up to 256 lookups in one call, for a page: asked has the ids, in any order and as often as you like, and row i of each of the three lists is
+ * what wentuhoro_lookup answers of asked[i]. numbers[i] is 0 where it is granted: then found[i] is the packed location and entry i of rows, a
+ * struct wentuhoro_kept, what the row carries. Else it is 8 or 13, and both are zeros; the other rows do not depend on it. numbers and found have
+ * one entry an id, rows 80 bytes. Refuses, for the whole call only: 1, then 15 for over 256 ids; the lists are then as they were. */
+uint64_t wentuhoro_lookup_page(size_t ids, size_t slots, const uint8_t *id_marks, size_t id_marks_len, const uint64_t *locations,
+                               size_t locations_len, const uint8_t *slot_marks, size_t slot_marks_len, const uint64_t *owners,
+                               size_t owners_len, const uint64_t *tallies, size_t tallies_len, const uint8_t *carried, size_t carried_len,
+                               const uint64_t *asked, size_t asked_len, uint8_t *numbers, size_t numbers_len, uint64_t *found,
+                               size_t found_len, uint8_t *rows, size_t rows_len);
 
 /* Takes the smallest free slot for each Store of a batch, in list order, and keeps the batch. In stores 0 frees, any other byte stores:
  * where stores[i] is not 0, update i stores an object of lengths[i] bytes as update_ids[i], whose row carries entry i of update_carried, a
@@ -410,6 +421,15 @@ static inline uint64_t wentuhoro_store_lookup(const struct wentuhoro_store *s, u
                             s->owners, wentuhoro_all_slots(s->slots), s->tallies, WENTUHORO_TALLY_WORDS,
                             wentuhoro_kept_bytes(s->carried), wentuhoro_store_carried_len(s), id, location, 1,
                             wentuhoro_kept_bytes_mut(carried), wentuhoro_carried_len(1));
+}
+
+/* A row of each list for each of so many ids. */
+static inline uint64_t wentuhoro_store_lookup_page(const struct wentuhoro_store *s, size_t asked, const uint64_t *asked_ids,
+                                                   uint8_t *numbers, uint64_t *found, struct wentuhoro_kept *rows) {
+    return wentuhoro_lookup_page(s->ids, s->slots, s->id_marks, s->ids, s->locations, s->ids, s->slot_marks,
+                                 wentuhoro_all_slots(s->slots), s->owners, wentuhoro_all_slots(s->slots), s->tallies,
+                                 WENTUHORO_TALLY_WORDS, wentuhoro_kept_bytes(s->carried), wentuhoro_store_carried_len(s), asked_ids, asked,
+                                 numbers, asked, found, asked, wentuhoro_kept_bytes_mut(rows), wentuhoro_carried_len(asked));
 }
 
 static inline uint64_t wentuhoro_store_offer(struct wentuhoro_store *s, size_t updates, const uint64_t *update_ids, const uint8_t *stores,

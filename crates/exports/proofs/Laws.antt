@@ -5,7 +5,7 @@ use Prim.Native.Nat.{ℕ, _+_, _*_, _^_, _<_}
 use native.Mathlib.Omega.{arith}
 use lib.ListN.{length, set}
 use borrow.Author.Tests.{eq-eqb, ne-eqb}
-use Rattle.refusal.specs.Outcomes.{Values, refused}
+use Rattle.refusal.specs.Outcomes.{Values, refused, finishedOutcome}
 use Rattle.refusal.specs.declared.Finished.{Finished}
 use Rattle.refusal.specs.declared.Finished.the-variants as F
 use Rattle.model.specs.Store.{Offer, offer, Answer}
@@ -19,11 +19,13 @@ use Rattle.model.specs.Verdict.{Verdict, ok, refuse}
 use Rattle.lookup.specs.declared.Looked.{Looked}
 use Rattle.lookup.specs.declared.Looked.the-variants as L
 use Rattle.lookup.specs.Lookup.{lookedAnswer}
+use Rattle.lookup_page.specs.Page as Page
 use Rattle.offer.specs.Outcome.{Left, offeredAnswer}
 use Rattle.snapshot_writer.specs.Outcome as Written
 use Rattle.snapshot_writer.specs.Outcome.{writtenAnswer}
 use Rattle.exports_status.specs.Status.{statusOf, valuesIn, exported}
 use Rattle.exports.specs.Answers.{whereFits}
+use Rattle.exports.specs.Pages.{ExportedPage, exportedPage}
 
 -- an index below 2^56 comes back from a status
 pub status-exact : (number index : ℕ) → number < 256 → index < 2 ^ 56 → statusOf (refused number index) ≡ number + 256 * index
@@ -142,6 +144,15 @@ written-status o o' file w e q = any o' ∙ told-status (λ (x : Finished). writ
     any : (x : Finished) → statusOf (outcomeOf (writtenAnswer x [])) ≡ statusOf (outcomeOf (writtenAnswer x file))
     any F.Done = refl
     any (F.Refused r) = refl
+
+-- a page's status is that of its outcome
+pub page-exported :
+    (o o' : Finished) (numbers locations carried : List ℕ) (l : Page.Left) (s : ℕ)
+    → record { outcome = finishedOutcome o; numbers = numbers; locations = locations; carried = carried } ≡ l → o ≡ o' → statusOf (finishedOutcome o') ≡ s
+    → _≡_ {A = ExportedPage} (record { status = s; numbers = numbers; locations = locations; carried = carried }) (exportedPage l)
+page-exported o o' numbers locations carried l s e q u =
+    (λ k. record { status = (sym u ∙ sym (ap (λ (x : Finished). statusOf (finishedOutcome x)) q)) k; numbers = numbers; locations = locations; carried = carried })
+    ∙ ap exportedPage e
 
 -- an offer changes four tables
 pub offer-memory :
