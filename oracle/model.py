@@ -35,7 +35,7 @@ BATCH_OPEN = 11
 NO_BATCH = 12
 TABLES_DISAGREE = 13
 RATIO_OUT_OF_RANGE = 14
-TOO_MANY_UPDATES = 15
+TOO_MANY = 15
 REPEATED_LOCATION = 16
 NOTHING_TO_CUT = 17
 GAP_NOT_ZERO = 18
@@ -284,6 +284,7 @@ def cutoff(live, tip, ratio_bits):
 
 FREE, HELD, PENDING = 0, 1, 2
 MOST_UPDATES = 256
+MOST_ASKED = 256
 BATCH_WORDS = 1 + 2 * MOST_UPDATES
 ALLOCATORS = 1 + SLABS
 WORD = 2**64
@@ -347,6 +348,14 @@ def kept_of(lent, row):
     return kept_row(collection, bytes(lent[start + 16 : start + 16 + key_length_in(lent, row)]))
 
 
+def page_lists(rows):
+    """What the lists that a page is lent hold after it: the rows' numbers, their locations, and what they carry. A refused row has its number and
+    zeros."""
+    numbers = bytes(row.number if refused(row) else 0 for row in rows)
+    locations = [0 if refused(row) else row.location for row in rows]
+    return numbers, locations, b"".join(bytes(CARRIED_WIDTH) if refused(row) else row.carried for row in rows)
+
+
 KEEP = "keep"
 DONE = "done"
 
@@ -359,6 +368,7 @@ LENT = {
     "rebuild": EVERY_TABLE,
     "new_id": ("id_marks", "batch") + TALLIES,
     "lookup": ("id_marks", "locations", "slot_marks", "owners", "carried"),
+    "lookup_page": ("id_marks", "locations", "slot_marks", "owners", "carried"),
     "offer": EVERY_TABLE,
     "commit": EVERY_TABLE,
     "abandon": ("slot_marks", "batch") + TALLIES,
@@ -566,6 +576,22 @@ class Store:
             return Refused(TABLES_DISAGREE)
         return Found(self.locations[id], self.carried_by(id))
 
+    def lookup_page(self, asked, number_rows=None, location_rows=None, carried_bytes=None):
+        """What `lookup` answers of each id, in the order asked; the others are the lengths of the lent lists. A row's own refusal is no refusal of
+        the call."""
+        if number_rows is None:
+            number_rows = len(asked)
+        if location_rows is None:
+            location_rows = len(asked)
+        if carried_bytes is None:
+            carried_bytes = CARRIED_WIDTH * len(asked)
+        same = len(asked) == number_rows == location_rows and carried_bytes == CARRIED_WIDTH * len(asked)
+        if self.lent_wrongly("lookup_page") or not same:
+            return Refused(WRONG_LENGTH)
+        if len(asked) > MOST_ASKED:
+            return Refused(TOO_MANY)
+        return [self.lookup(id) for id in asked]
+
     # -- batches
 
     def offer(self, update_ids, stores, lengths, update_carried=None, answer_rows=None):
@@ -581,7 +607,7 @@ class Store:
         if self.batch_open():
             return Refused(BATCH_OPEN)
         if len(update_ids) > MOST_UPDATES:
-            return Refused(TOO_MANY_UPDATES)
+            return Refused(TOO_MANY)
         asked = [0] * SLABS
         seen = set()
         for index, (id, store, length) in enumerate(zip(update_ids, stores, lengths)):

@@ -9,6 +9,7 @@ The chances are seeded, so both give the same lines. oracle/answers/README.md ha
 import os
 import random
 import sys
+from itertools import groupby
 
 import model
 import snapshot
@@ -32,8 +33,9 @@ class Lists:
         self.head = [f"# {title}", "# Made by: python3 -m comparison.answers write (in oracle/). Grammar: README.md."]
         self.lines = []
         self.of_rust, self.of_library = [], []
-        # Of the keys, so that the other choices don't hang on them.
+        # Of the keys, and of the pages, so that the other choices don't hang on them.
         self.keys = random.Random(title)
+        self.pages = random.Random(f"{title}, pages")
 
     def ask(self, line, expected, listed=None):
         """A line for a driver, and what it has to answer for the lines beside it to be the Rust's; `listed` of the library, where that is
@@ -366,6 +368,39 @@ class Listed:
         self.lists.ask_library(f"found {id}", answer if refused(answer) else listed)
         self.note(f"lookup {id}", answer, f"lookup {id}", spoken.ok(location), listed)
 
+    def page(self, asked):
+        """The ids, the call, then its rows. The Rust, which has no such call, is asked each granted row by itself: the page is its answer where they
+        all are."""
+        for at, count, (id,), (step,) in runs([(id,) for id in asked]):
+            self.lists.lines.append(f"id {at} {count} {id} {step}")
+        call, answer = f"page {len(asked)}", self.store.lookup_page(asked)
+        self.lists.ask_library(" ".join(map(str, [call, *asked])), answer if refused(answer) else replay.page_told(answer))
+        if refused(answer):
+            self.lists.refuse(call, answer)
+            return
+        for id, row in zip(asked, answer):
+            if not refused(row):
+                self.lists.ask(f"lookup {id}", spoken.ok(row.location))
+        if answer and not any(map(refused, answer)):
+            self.lists.grant(call, "ok")
+        else:
+            self.lists.lines.append(f"model {call} ok")
+        self.lists.lines += page_rows(answer)
+
+    def some_page(self):
+        """Of a few ids: those that there are, in order; some that are stored; or any."""
+        chance, ids = self.lists.pages, self.store.ids
+        stored = [id for id in range(1, ids) if not refused(self.store.lookup(id))]
+        any_id = lambda: chance.choice((0, ids, ids + 1, 2**64 - 1)) if chance.random() < 0.1 else chance.randint(1, ids - 1)
+        count = chance.choice((0, 1, 2, 3, 3, 4, 5, 6, 8, 12))
+        kind = chance.random()
+        if kind < 0.1:
+            self.page(list(range(1, min(ids, 13))))
+        elif kind < 0.7 and stored:
+            self.page([chance.choice(stored) for _ in range(count)])
+        else:
+            self.page([any_id() for _ in range(count)])
+
     def snapshot(self):
         """Its length; then the file, by its check, and one that is a block too long, too short or a byte off."""
         length = self.store.snapshot_length()
@@ -455,6 +490,26 @@ def same_kind(rows):
         at = end
 
 
+def page_rows(answer):
+    """The lines of a page's rows: stretches that carry the same key or have the same refusal, in runs."""
+    lines, at = [], 0
+    for kind, stretch in groupby(answer, row_kind):
+        rows = list(stretch)
+        if refused(kind):
+            lines.append(f"unfound {at} {len(rows)} {kind.number}")
+        else:
+            for run_at, count, first, steps in runs([(row.location, snapshot.number(row.carried[:8])) for row in rows]):
+                columns = " ".join(f"{number} {step}" for number, step in zip(first, steps))
+                lines.append(f"found {at + run_at} {count} {columns} {kind}")
+        at += len(rows)
+    return lines
+
+
+def row_kind(row):
+    """What the rows of a stretch have in common."""
+    return row if refused(row) else replay.digits(row.carried[8:])
+
+
 BAD_RATIOS = (0, 0x80000000, 0xBF000000, 0x3F800001, 0x7F800000, 0x7FC00000, 0xFFFFFFFF)
 
 
@@ -464,6 +519,8 @@ def random_history(lists, chance, ids, slots, on_files, calls):
     store = listed.store
     live_slabs = sorted({model.slab_for_size(length) for length in lengths})
     for _ in range(calls):
+        if not on_files and lists.pages.random() < 0.012:
+            listed.some_page()
         kind = chance.choices(
             ("new_id", "batch", "release", "lookup", "defrag", "counters", "restart", "truncation", "wrong"),
             (25, 30, 12, 10, 8, 4, 3, 9, 4),
@@ -535,10 +592,12 @@ def while_open(listed, chance):
         listed.report(0, 80)
         listed.lookup(1)
         listed.snapshot()
+        if not listed.on_files and listed.lists.pages.random() < 0.05:
+            listed.some_page()
 
 
 def named_cases(lists, chance):
-    """Document 01's P8 and its whole run; the limits of a batch and of the capacities."""
+    """Document 01's P8 and its whole run; the limits of a batch, of a page and of the capacities."""
     for released in (True, False):
         listed = Listed(lists, chance, 9, 8, [3], False)
         for _ in range(3):
@@ -550,6 +609,7 @@ def named_cases(lists, chance):
         if released:
             listed.release()
         listed.new_id()
+        listed.page([1, 2, 3] if released else [3, 4, 2, 1])
     listed = Listed(lists, chance, 9, 8, [3], False)
     for _ in range(9):
         listed.new_id()
@@ -567,6 +627,10 @@ def named_cases(lists, chance):
             if listed.offer([(id, True, 3) for id in range(1, count + 1)]):
                 listed.commit()
             listed.snapshot()
+        if slots == 512:
+            # As many ids as a page may have, all stored or not; and one more.
+            for asked in (range(1, 257), range(44, 300), [256] * 256, range(1, 258)):
+                listed.page(list(asked))
         listed.offer([(1, True, 3), (1, True, 3)])
         listed.offer([(1, True, 3), (1, False, 0)])
         listed.offer([(1, True, 17_179_869_173)])
@@ -587,7 +651,35 @@ def stores_list():
     for _ in range(3):
         random_history(lists, chance, chance.randint(200, 300), chance.randint(64, 512), False, 30)
     cut_edges(lists, chance)
+    pages(lists, chance)
     return lists
+
+
+def pages(lists, chance):
+    """Numbers that are no ids among good ones, each kind of id that has no object, an id over and over; and while a batch is open."""
+    listed = Listed(lists, chance, 9, 8, [3], False)
+    listed.page([])
+    listed.page([1])
+    for _ in range(6):
+        listed.new_id()
+    listed.page([1, 2])
+    listed.offer([(id, True, 3) for id in range(1, 5)], {1: (3, b"key"), 2: (64, b"\xff" * 64)})
+    listed.page([1, 2])
+    listed.commit()
+    for asked in ([], [1], [3], [0], [9], [1, 2, 3, 4], [4, 3, 2, 1], [2] * 12, [1, 0, 2, 9, 3, 2**64 - 1, 4], [1, 5, 2], [1, 7, 2], [5, 5, 1, 5, 5]):
+        listed.page(asked)
+    # A location of the open batch is not told yet; a freed one still is.
+    listed.offer([(1, True, 60), (2, False, 0), (5, True, 3)], {0: (1, b"1")})
+    for asked in ([], [1, 2, 5], [1, 3, 1]):
+        listed.page(asked)
+    listed.commit()
+    # Id 2 is pending, then free, then held anew and never stored since.
+    for make_call in (listed.release, listed.new_id, listed.release):
+        listed.page([1, 2, 3, 5])
+        make_call()
+    listed.rebuild([(3, 2**56 + 7), (8, 2**57)], {0: (2, b"ab")})
+    listed.page([8, 3, 8, 1])
+    listed.page(list(range(1, 9)))
 
 
 def keys_kept(lists, chance):
@@ -604,6 +696,7 @@ def keys_kept(lists, chance):
     # Those with a longer key get a shorter one, and the other way round; zeros are a key as other bytes are.
     listed.offer([(1, True, 3), (7, True, 3), (8, True, 3)], {0: (64, b"\xff" * 64), 1: (3, b"new"), 2: (5, b"")})
     listed.lookup(1)
+    listed.page([1, 7, 9, 1])
     listed.commit()
     every()
     listed.offer([(6, True, 3)], {0: (7, b"nothing")})
@@ -620,6 +713,7 @@ def keys_kept(lists, chance):
     every()
     listed.rebuild([(1, 2**56 + 4), (2, 2**56), (3, 2**57 + 1)], {0: (0, behind), 1: (64, behind), 2: (2, behind)})
     every()
+    listed.page(list(range(10)))
 
 
 def keys_refused(lists, chance):
@@ -890,6 +984,8 @@ def list_any_tables(lists, chance):
         for (table, at), value in entries(store).items():
             if before.get((table, at)) != value:
                 lists.lines.append(f"peek {table} {at} {value}")
+    if lists.pages.random() < 0.15:
+        listed.some_page()
 
 
 def soften(chance, store):
@@ -913,6 +1009,7 @@ def tables_list():
     for _ in range(200):
         list_any_tables(lists, chance)
     keys_in_tables(lists, chance)
+    pages_in_tables(lists, chance)
     return lists
 
 
@@ -926,6 +1023,35 @@ def keys_in_tables(lists, chance):
     for rows, long in (([bad], ()), ([bad], (0,)), ([bad, good], (1,)), ([good, bad], (0,)), ([good, bad], (1,)), ([good, bad], ())):
         listed.offer(rows, {row: (65, b"") for row in long})
     listed.offer([(1, False, 0)], {0: (65, b"")})
+
+
+def pages_in_tables(lists, chance):
+    """13 between good rows: id 2's owner is another, then its location is out of range, then its slot is pending. Id 3's mark is none of the three, and
+    a batch is open that is none."""
+    listed = Listed(lists, chance, 5, 2, [3], False)
+
+    def poke(table, at, value):
+        getattr(listed.store, table)[at] = value
+        lists.lines.append(f"poke {table} {at} {value}")
+
+    poke("batch", 0, 2**64 - 1)
+    for id, mark, location, at in ((1, HELD, 2**56, 0), (2, HELD, 2**56 + 1, 1), (3, 255, 2**57, 2), (4, model.PENDING, 2**57 + 1, 3)):
+        poke("id_marks", id, mark)
+        poke("locations", id, location)
+        poke("slot_marks", at, HELD)
+        poke("owners", at, 1 if id == 2 else id)
+    for id, carried in ((1, model.kept_row(1, b"one")), (2, model.kept_row(2, b"two")), (3, bytes([255]) * model.CARRIED_WIDTH)):
+        listed.store.carry(id, carried)
+        lists.lines.append(f"poke carried {id} {replay.kept_told(carried)}")
+    for asked in ([1, 2, 3], [1, 4, 3, 2, 1, 5, 3, 0, 3], [2], [2] * 256, [1, 2, 1, 2], [2**64 - 1] * 257):
+        listed.page(asked)
+    poke("owners", 1, 2)
+    listed.page([1, 2, 3])
+    poke("locations", 2, 2**56 + 2)
+    listed.page([1, 2, 3])
+    poke("locations", 2, 2**56 + 1)
+    poke("slot_marks", 1, model.PENDING)
+    listed.page([1, 2, 3])
 
 
 FILES = {

@@ -86,9 +86,15 @@ def any_call(chance, store):
         row_carried = chance.choice((row_carried + bytes(1), row_carried[:-1]))
     file_length = store.snapshot_bytes() if len(store.id_marks) == len(store.locations) == store.ids else SNAPSHOT_BLOCK
     file_length += chance.choice((0, 0, 0, 0, 0, 0, SNAPSHOT_BLOCK, -SNAPSHOT_BLOCK, 1))
+    asked = [some_id() for _ in range(4)]
+    asked = asked[: chance.randint(0, 4)] if chance.random() < 0.9 else (asked * 65)[: chance.choice((256, 257))]
+    lent_rows = [len(asked), len(asked), CARRIED_WIDTH * len(asked)]
+    if chance.random() < 0.1:
+        lent_rows[chance.randrange(3)] += 1
     return chance.choice((
         ("new_id", Store.new_id), ("release", Store.release), ("commit", Store.commit), ("abandon", Store.abandon),
-        ("lookup", lambda store: store.lookup(id)), ("offer", lambda store: store.offer(*columns, carried)),
+        ("lookup", lambda store: store.lookup(id)), ("lookup_page", lambda store: store.lookup_page(asked, *lent_rows)),
+        ("offer", lambda store: store.offer(*columns, carried)),
         ("rebuild", lambda store: store.rebuild(row_ids, row_locations, row_carried)), ("fresh", Store.fresh),
         ("snapshot_length", Store.snapshot_length), ("snapshot_write", lambda store: store.snapshot_write(file_length)),
         ("counters", Store.counters), ("defrag", lambda store: store.defrag(bits)),
@@ -117,7 +123,7 @@ def run(chance, count):
 # Every refusal that the documents' orders list for a store call.
 LISTED = {
     "new_id": (1, 11, 10), "release": (1, 11), "offer": (1, 11, 15, 8, 9, 21, 2, 13, 10), "rebuild": (1, 8, 9, 3, 16, 21),
-    "lookup": (1, 8, 13), "truncation": (1, 11, 3, 14), "report": (1, 11, 3, 14, 17), "defrag": (1, 11, 14),
+    "lookup": (1, 8, 13), "lookup_page": (1, 15), "truncation": (1, 11, 3, 14), "report": (1, 11, 3, 14, 17), "defrag": (1, 11, 14),
     "commit": (1, 12, 13), "abandon": (1, 12, 13), "fresh": (1,), "counters": (1,),
     "snapshot_length": (1, 11), "snapshot_write": (1, 11, 13),
 }

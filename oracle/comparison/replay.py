@@ -9,7 +9,7 @@ import sys
 
 import model
 import snapshot
-from model import CARRIED_WIDTH, KEEP, LONGEST_KEY, Carried, Store, carried_of, refused
+from model import CARRIED_WIDTH, KEEP, LONGEST_KEY, Carried, Found, Refused, Store, carried_of, refused
 
 from comparison.beside import HERE
 
@@ -73,6 +73,12 @@ def kept_row(words):
     return row.ljust(CARRIED_WIDTH, b"\0")
 
 
+def page_told(rows):
+    """A page's rows, one after the other: number, location, and what the row carries; zeros behind a refusal's number."""
+    words = lambda row: f"{row.number} 0 0 -" if refused(row) else f"0 {row.location} {kept_told(row.carried)}"
+    return " ".join(["ok", *map(words, rows)])
+
+
 def file_check(rows):
     """The check of ISO 3309 over the bodies of the blocks of a store's file, by which a list says the file."""
     return model.crc32(snapshot.bodies(snapshot.write_kept(rows)))
@@ -122,6 +128,19 @@ def runs(count, *columns):
     return [tuple(first + i * step for first, step in columns) for i in range(count)]
 
 
+def found_rows(words):
+    """(place, rows) of a page's granted rows."""
+    at, count, *columns = words.numbers(6)
+    kept = words.hex().ljust(CARRIED_WIDTH - 8, b"\0")
+    return at, [Found(location, collection.to_bytes(8, "little") + kept) for location, collection in runs(count, columns[0:2], columns[2:4])]
+
+
+def unfound_rows(words):
+    """Likewise of its refused ones."""
+    at, count, number = words.numbers(3)
+    return at, [Refused(number)] * count
+
+
 class File:
     """The snapshot file that the lines of a list make."""
 
@@ -165,8 +184,8 @@ class File:
 class Replay:
     def __init__(self):
         self.store = self.file = None
-        self.updates, self.rows, self.keys = [], [], {}
-        self.given, self.listed, self.counted = [], [], []
+        self.updates, self.rows, self.keys, self.asked = [], [], {}, []
+        self.given, self.listed, self.counted, self.paged = [], [], [], []
 
     def line(self, text):
         """What the line should say, or None where it only prepares a call."""
@@ -192,6 +211,11 @@ class Replay:
         at, count, *columns = words.numbers(8)
         assert at == len(self.rows)
         self.rows += runs(count, columns[0:2], columns[2:4], columns[4:6])
+
+    def line_id(self, words, text):
+        at, count, id, step = words.numbers(4)
+        assert at == len(self.asked)
+        self.asked += [id for (id,) in runs(count, (id, step))]
 
     def line_key(self, words, text):
         at, length, data = words.number(), words.number(), words.hex()
@@ -222,6 +246,14 @@ class Replay:
         at, count, location, step = words.numbers(4)
         same = self.given[at : at + count] == [location + i * step for i in range(count)]
         return text if same else f"slot {at} {self.given[at : at + count]}"
+
+    def line_found(self, words, text):
+        at, rows = found_rows(words)
+        return text if self.paged[at : at + len(rows)] == rows else f"found {at} {self.paged[at : at + len(rows)]}"
+
+    def line_unfound(self, words, text):
+        at, rows = unfound_rows(words)
+        return text if self.paged[at : at + len(rows)] == rows else f"unfound {at} {self.paged[at : at + len(rows)]}"
 
     def line_listed(self, words, text):
         at, count, id, step, location, location_step = words.numbers(6)
@@ -256,6 +288,11 @@ class Replay:
         if name == "lookup":
             answer = store.lookup(words.number())
             return told(answer) if refused(answer) else told(answer, answer.location, kept_told(answer.carried))
+        if name == "page":
+            asked, self.asked = self.asked, []
+            assert words.number() == len(asked)
+            self.paged = store.lookup_page(asked)
+            return told(self.paged)
         if name == "offer":
             rows, self.updates = self.updates, []
             assert words.number() == len(rows)

@@ -89,8 +89,8 @@ static const uint8_t *canaries(const struct slice *s) { return s->at == s->regio
 /* ---- calls and their refusals */
 
 enum call {
-    NEW_ID, LOOKUP, OFFER, COMMIT, ABANDON, RELEASE, FRESH, REBUILD, STATS, COUNTERS, DEFRAG, TRUNCATION, CUT_DONE, SNAPSHOT_LENGTH,
-    SNAPSHOT_WRITE,
+    NEW_ID, LOOKUP, LOOKUP_PAGE, OFFER, COMMIT, ABANDON, RELEASE, FRESH, REBUILD, STATS, COUNTERS, DEFRAG, TRUNCATION, CUT_DONE,
+    SNAPSHOT_LENGTH, SNAPSHOT_WRITE,
     CLASS, CRC32, CRC32_UPDATE, FRAME_WRITE, FRAME_READ, COOKIE_WRITE, COOKIE_READ, COOKIE_VERIFY, PACK, UNPACK, CUTOFF, SNAPSHOT_STEP,
     SNAPSHOT_READ, SLAB_SIZES, CALLS
 };
@@ -101,6 +101,7 @@ static const struct {
 } listed[CALLS] = {
     {"new_id", "\1\13\12"},
     {"lookup", "\1\10\15"},
+    {"lookup_page", "\1\17"},
     {"offer", "\1\13\17\10\11\25\2\15\12"},
     {"commit", "\1\14\15"},
     {"abandon", "\1\14\15"},
@@ -166,6 +167,14 @@ static uint64_t any_location(void) {
     uint64_t slab = ONE_OF(0, 0, 1, 77, 78, 254), slot = ONE_OF(0, 1, true_slots - 1, true_slots, UINT64_C(1) << 55);
     if (in_hundred(60)) return good_location();
     return ONE_OF(0, 0, (slab + 1) * (UINT64_C(1) << 56) + slot, UINT64_MAX, (UINT64_C(1) << 56) - 1, 1);
+}
+
+static void fill_bytes(struct slice *s) {
+    for (size_t i = 0; i < s->length; i++) s->at[i] = (uint8_t)word();
+}
+
+static void fill_words(struct slice *s) {
+    for (size_t i = 0; i < s->length; i++) words(s)[i] = word();
 }
 
 static void fill_marks(struct slice *s) {
@@ -316,8 +325,9 @@ static uint64_t store_call(enum call call) {
     bool whole = call == OFFER || call == COMMIT || call == FRESH || call == REBUILD || call == SNAPSHOT_WRITE;
     bool has_slots = call != NEW_ID && call != STATS && call != COUNTERS && call != SNAPSHOT_LENGTH;
     bool writes_all = call == COMMIT || call == FRESH || call == REBUILD;
-    bool located = whole || call == LOOKUP || call == DEFRAG;
-    bool has_batch = call != LOOKUP && call != STATS && call != COUNTERS;
+    bool looks_up = call == LOOKUP || call == LOOKUP_PAGE;
+    bool located = whole || looks_up || call == DEFRAG;
+    bool has_batch = !looks_up && call != STATS && call != COUNTERS;
     struct slice *im = NULL, *lo = NULL, *sm = NULL, *ow = NULL, *ba = NULL, *ta, *ca = NULL;
     if (has_ids) fill_marks(im = lend_near(1, true_ids, writes_all || call == NEW_ID || call == RELEASE));
     if (located || call == SNAPSHOT_LENGTH) fill_locations(lo = lend_near(8, true_ids, writes_all));
@@ -326,10 +336,10 @@ static uint64_t store_call(enum call call) {
     if (located) fill_owners(ow = lend_near(8, WENTUHORO_SLABS * true_slots, writes_all));
     if (has_batch) fill_batch(ba = lend_near(8, WENTUHORO_BATCH_WORDS, writes_all || call == OFFER || call == ABANDON));
     bool snapshots = call == SNAPSHOT_LENGTH || call == SNAPSHOT_WRITE;
-    bool counts_only = call == LOOKUP || call == STATS || call == COUNTERS || call == DEFRAG || snapshots;
+    bool counts_only = looks_up || call == STATS || call == COUNTERS || call == DEFRAG || snapshots;
     fill_tallies(ta = lend_near(8, WENTUHORO_TALLY_WORDS, !counts_only));
     size_t carried_len = wentuhoro_carried_len(WENTUHORO_CARRIED_ROWS(true_ids));
-    if (whole || call == LOOKUP) fill_carried(ca = lend_near(1, carried_len, writes_all || call == OFFER));
+    if (whole || looks_up) fill_carried(ca = lend_near(1, carried_len, writes_all || call == OFFER));
     if (snapshots && in_hundred(60)) agree_all(im, lo, sm, ow);
     else if (has_slots) agree(im, lo, sm, ow);
     number(ids);
@@ -349,6 +359,15 @@ static uint64_t store_call(enum call call) {
         b = lend_near(1, WENTUHORO_CARRIED_WIDTH, true);
         keep_before();
         return wentuhoro_lookup(ids, slots, B(im), P(lo), B(sm), P(ow), P(ta), B(ca), n, P(a), B(b));
+    case LOOKUP_PAGE:
+        count = in_hundred(94) ? below(7) : 255 + below(3);
+        a = lend_near(8, count, false);
+        fill_bytes(b = lend_near(1, count, true));
+        fill_words(c = lend_near(8, count, true));
+        fill_bytes(d = lend_near(1, wentuhoro_carried_len(count), true));
+        for (size_t i = 0; i < a->length; i++) words(a)[i] = any_id();
+        keep_before();
+        return wentuhoro_lookup_page(ids, slots, B(im), P(lo), B(sm), P(ow), P(ta), B(ca), P(a), B(b), P(c), B(d));
     case OFFER:
         count = in_hundred(97) ? below(4) : 255 + below(3);
         a = lend_near(8, count, false);
@@ -423,10 +442,6 @@ static uint64_t store_call(enum call call) {
     default:
         abort();
     }
-}
-
-static void fill_bytes(struct slice *s) {
-    for (size_t i = 0; i < s->length; i++) s->at[i] = (uint8_t)word();
 }
 
 /* A check under the bytes before it, as frames and cookies have. */
@@ -573,10 +588,6 @@ static struct slice *any_file(void) {
     struct slice *s = lend_near(1, bytes, false);
     memcpy(s->at, file, s->length < bytes ? s->length : bytes);
     return s;
-}
-
-static void fill_words(struct slice *s) {
-    for (size_t i = 0; i < s->length; i++) words(s)[i] = word();
 }
 
 static uint64_t leaf_call(enum call call) {

@@ -12,8 +12,8 @@ import snapshot
 from model import ALLOCATORS, BATCH_WORDS, CARRIED_WIDTH, KEEP, MOST_UPDATES, SLABS, Refused, refused
 
 CALLS = (
-    "new_id", "lookup", "offer", "commit", "abandon", "release", "fresh", "rebuild", "stats", "counters", "defrag", "truncation", "cut_done",
-    "snapshot_length", "snapshot_write",
+    "new_id", "lookup", "lookup_page", "offer", "commit", "abandon", "release", "fresh", "rebuild", "stats", "counters", "defrag", "truncation",
+    "cut_done", "snapshot_length", "snapshot_write",
     "class", "crc32", "crc32_update", "frame_write", "frame_read", "cookie_write", "cookie_read", "cookie_verify", "pack", "unpack",
     "fragmentation_cutoff", "snapshot_step", "snapshot_read", "slab_sizes",
 )
@@ -21,8 +21,8 @@ CALLS = (
 TABLES = ("id_marks", "locations", "slot_marks", "owners", "batch", "tallies", "carried")
 # The tables that each call is lent, in order.
 LENT = {
-    "new_id": (0, 4, 5), "lookup": (0, 1, 2, 3, 5, 6), "offer": range(7), "commit": range(7), "abandon": (2, 4, 5),
-    "release": (0, 2, 4, 5), "fresh": range(7), "rebuild": range(7), "stats": (5,), "counters": (5,), "defrag": (1, 2, 3, 4, 5),
+    "new_id": (0, 4, 5), "lookup": (0, 1, 2, 3, 5, 6), "lookup_page": (0, 1, 2, 3, 5, 6), "offer": range(7), "commit": range(7),
+    "abandon": (2, 4, 5), "release": (0, 2, 4, 5), "fresh": range(7), "rebuild": range(7), "stats": (5,), "counters": (5,), "defrag": (1, 2, 3, 4, 5),
     "truncation": (2, 4, 5), "cut_done": (2, 4, 5), "snapshot_length": (0, 1, 4, 5), "snapshot_write": range(7),
 }
 # The slice of an offer that says of each update whether it stores.
@@ -62,7 +62,7 @@ def table_lengths(ids, slots):
 
 
 def lent_wrongly(case):
-    """Refusal 1, but for the lists of offer, rebuild and defrag and a snapshot's file, which the model judges."""
+    """Refusal 1, but for the lists of a page, of offer, rebuild and defrag and a snapshot's file, which the model judges."""
     name, (ids, slots, *_) = case.name, case.numbers
     lengths = table_lengths(ids, slots)
     own = case.before[len(LENT[name]) :]
@@ -96,6 +96,10 @@ def store_call(case):
     if name == "lookup":
         answer = store.lookup(*rest)
         return answer, None if refused(answer) else [[answer.location], answer.carried], store
+    if name == "lookup_page":
+        asked, numbers, locations, carried = own
+        answer = store.lookup_page(list(asked), len(numbers), len(locations), len(carried))
+        return answer, None if refused(answer) else [asked, *model.page_lists(answer)], store
     if name == "offer":
         ids_, stores, lengths, carried, placed = own
         answer = store.offer(list(ids_), [store != 0 for store in stores], list(lengths), carried, len(placed))

@@ -13,11 +13,11 @@ use Rattle.refusal.specs.Outcomes.{granted, refused}
 use Rattle.little_endian.specs.LittleEndian.{bytesOf}
 use Rattle.carried.specs.Carried.{width, upFrom}
 use Rattle.model.specs.Store.{Store, Call, newId, release, offer, commit, abandon, rebuild, ask, lookup, counters, snapshotLength, snapshot, truncation, report}
-use Rattle.model.specs.Store.{keep, cut, Grant, done, gave, found, placed, counts, moves, truncated, Answer}
+use Rattle.model.specs.Store.{keep, cut, Grant, done, gave, found, Told, told, placed, counts, moves, truncated, Answer}
 use Rattle.model.specs.Tables.{allocators}
 use Rattle.model.specs.Rebuild.{freshStore}
 use Rattle.model.specs.Step.{answer, next}
-use Rattle.model.specs.Cases.{concat, defragOf}
+use Rattle.model.specs.Cases.{concat, defragOf, pageOf, refusedRow}
 
 -- a call, and what was answered
 pub record Asked : Type 0 where
@@ -49,9 +49,17 @@ rebuildOf is ls rs = rebuild (record { ids = is; locations = ls; carried = conca
 abbrev pub lookupOf : ℕ → Call
 lookupOf i = ask (lookup i (replicate width 0))
 
+-- a row as the store keeps it: a collection, a key
+abbrev pub keptOf : ℕ → List ℕ → List ℕ
+keptOf c k = bytesOf 8 c ++ (length k ∷ (k ++ replicate (71 - length k) 0))
+
 -- a location, a collection, a key
 abbrev pub foundAt : ℕ → ℕ → List ℕ → Grant
-foundAt l c k = found l (bytesOf 8 c ++ (length k ∷ (k ++ replicate (71 - length k) 0)))
+foundAt l c k = found l (keptOf c k)
+
+-- the same of a row of a page
+abbrev pub toldRow : ℕ → ℕ → List ℕ → Told
+toldRow l c k = record { number = 0; location = l; carried = keptOf c k }
 
 -- a lent file of so many bytes
 abbrev pub snapshotIn : ℕ → Call
@@ -85,16 +93,17 @@ AllAgree (h ∷ hs) = Agrees (h .0) (h .1) × AllAgree hs
 
 -- ---- the sample
 
--- stores.txt, history 1; 9 calls after fresh, less those that the list says in part
+-- stores.txt, history 1; 10 calls after fresh, less those that the list says in part
 unfoldable pub sample1 : List Asked
 sample1 =
     asked newId (gave 1) ∷ asked newId (gave 2) ∷ asked newId (gave 3) ∷ asked (offerOf (1 ∷ 2 ∷ 3 ∷ []) (true ∷ true ∷ true ∷ []) (3 ∷ 3 ∷ 3 ∷ [])
     (keyed 72340172838076417 3 (125 ∷ 151 ∷ 243 ∷ []) ∷ keyed 72340172838076418 2 (144 ∷ 19 ∷ 122 ∷ 138 ∷ []) ∷ keyed 72340172838076419 2 (163 ∷ 227 ∷ 110 ∷
     39 ∷ []) ∷ [])) (placed (72057594037927936 ∷ 72057594037927937 ∷ 72057594037927938 ∷ [])) ∷ asked commit done ∷
     asked (offerOf (2 ∷ []) (false ∷ []) (0 ∷ []) (plain 144680345676152834 ∷ [])) (placed (0 ∷ [])) ∷ asked commit done ∷ asked release done ∷
-    asked newId (gave 2) ∷ []
+    asked newId (gave 2) ∷ asked (pageOf (1 ∷ 2 ∷ 3 ∷ [])) (told (toldRow 72057594037927936 72340172838076417 (125 ∷ 151 ∷ 243 ∷ []) ∷ refusedRow 8 ∷
+    toldRow 72057594037927938 72340172838076419 (163 ∷ 227 ∷ []) ∷ [])) ∷ []
 
--- stores.txt, history 8: keys of all kinds; 34 calls after fresh, less those that the list says in part
+-- stores.txt, history 8: keys of all kinds; 35 calls after fresh, less those that the list says in part
 unfoldable pub sample2 : List Asked
 sample2 =
     asked newId (gave 1) ∷ asked newId (gave 2) ∷ asked newId (gave 3) ∷ asked newId (gave 4) ∷ asked newId (gave 5) ∷ asked newId (gave 6) ∷
@@ -111,8 +120,10 @@ sample2 =
     asked (lookupOf 7) (foundAt 72057594037927942 72340172838076423 (upFrom 1 64)) ∷ asked (lookupOf 8) (foundAt 72057594037927943 72340172838076424 []) ∷
     asked (ask snapshotLength) (gave 1024) ∷ denied (snapshotIn 512) 1 0 ∷ asked (offerOf (1 ∷ 7 ∷ 8 ∷ []) (true ∷ true ∷ true ∷ []) (3 ∷ 3 ∷ 3 ∷ [])
     (keyed 144680345676152833 64 (replicate 64 255) ∷ keyed 144680345676152839 3 (110 ∷ 101 ∷ 119 ∷ []) ∷ keyed 144680345676152840 5 [] ∷ [])) (placed
-    (72057594037927944 ∷ 72057594037927945 ∷ 72057594037927946 ∷ [])) ∷ asked (lookupOf 1) (foundAt 72057594037927936 72340172838076417 []) ∷
-    asked commit done ∷ asked (lookupOf 1) (foundAt 72057594037927944 144680345676152833 (replicate 64 255)) ∷
+    (72057594037927944 ∷ 72057594037927945 ∷ 72057594037927946 ∷ [])) ∷ asked (lookupOf 1) (foundAt 72057594037927936 72340172838076417 []) ∷ asked (pageOf (1 ∷
+    7 ∷ 9 ∷ 1 ∷ [])) (told (toldRow 72057594037927936 72340172838076417 [] ∷ toldRow 72057594037927942 72340172838076423 (upFrom 1 64) ∷ refusedRow 8 ∷
+    toldRow 72057594037927936 72340172838076417 [] ∷ [])) ∷ asked commit done ∷
+    asked (lookupOf 1) (foundAt 72057594037927944 144680345676152833 (replicate 64 255)) ∷
     asked (lookupOf 2) (foundAt 72057594037927937 72340172838076418 (1 ∷ [])) ∷ asked (lookupOf 3) (foundAt 72057594037927938 72340172838076419 (1 ∷ 2 ∷ [])) ∷
     asked (lookupOf 4) (foundAt 72057594037927939 72340172838076420 (upFrom 1 31)) ∷
     asked (lookupOf 5) (foundAt 72057594037927940 72340172838076421 (upFrom 1 62)) ∷
@@ -227,7 +238,7 @@ sample3 =
     (replicate 64 255) ∷ [])) 21 1 ∷ asked (lookupOf 1) (foundAt 72057594037927936 72340172838076417 (replicate 64 255)) ∷
     asked (lookupOf 2) (foundAt 72057594037927937 3617008641903820802 []) ∷ []
 
--- stores.txt, history 10; 35 calls after fresh, less those that the list says in part
+-- stores.txt, history 10; 36 calls after fresh, less those that the list says in part
 unfoldable pub sample4 : List Asked
 sample4 =
     asked release done ∷ asked newId (gave 1) ∷ asked newId (gave 2) ∷ asked (ask counters) (countsFrom ((0, 3, 0) ∷ []) 3 0 0 0) ∷
@@ -240,10 +251,12 @@ sample4 =
     denied (lookupOf 18446744073709551615) 8 0 ∷ denied (defragOf nan 4) 14 0 ∷ asked release done ∷ asked (offerOf (1 ∷ 2 ∷ 3 ∷ []) (true ∷ true ∷ true ∷ [])
     (3 ∷ 3 ∷ 3 ∷ []) (plain 289360691352305665 ∷ plain 289360691352305666 ∷ plain 289360691352305667 ∷ [])) (placed (72057594037927937 ∷ 72057594037927938 ∷
     72057594037927939 ∷ [])) ∷ asked commit done ∷ asked (lookupOf 2) (foundAt 72057594037927938 289360691352305666 []) ∷ denied commit 12 0 ∷
-    denied (defragOf nan 4) 14 0 ∷ denied (lookupOf 5) 8 0 ∷ asked (ask counters) (countsFrom ((0, 3, 0) ∷ (1, 3, 0) ∷ []) 3 0 3 0) ∷ asked release done ∷ asked
-    (offerOf (1 ∷ 2 ∷ 3 ∷ []) (false ∷ true ∷ true ∷ []) (0 ∷ 3 ∷ 3 ∷ []) (plain 361700864190382081 ∷ plain 361700864190382082 ∷ plain 361700864190382083 ∷ []))
-    (placed (0 ∷ 72057594037927936 ∷ 72057594037927940 ∷ [])) ∷ asked commit done ∷ asked release done ∷
-    asked (defragOf (fin false 1 (negsuc 148)) 4) (moves []) ∷ asked (lookupOf 2) (foundAt 72057594037927936 361700864190382082 []) ∷ []
+    denied (defragOf nan 4) 14 0 ∷ denied (lookupOf 5) 8 0 ∷ asked (ask counters) (countsFrom ((0, 3, 0) ∷ (1, 3, 0) ∷ []) 3 0 3 0) ∷ asked (pageOf (3 ∷ 3 ∷ 3 ∷
+    2 ∷ [])) (told (toldRow 72057594037927939 289360691352305667 [] ∷ toldRow 72057594037927939 289360691352305667 [] ∷
+    toldRow 72057594037927939 289360691352305667 [] ∷ toldRow 72057594037927938 289360691352305666 [] ∷ [])) ∷ asked release done ∷ asked (offerOf (1 ∷ 2 ∷ 3 ∷
+    []) (false ∷ true ∷ true ∷ []) (0 ∷ 3 ∷ 3 ∷ []) (plain 361700864190382081 ∷ plain 361700864190382082 ∷ plain 361700864190382083 ∷ [])) (placed (0 ∷
+    72057594037927936 ∷ 72057594037927940 ∷ [])) ∷ asked commit done ∷ asked release done ∷ asked (defragOf (fin false 1 (negsuc 148)) 4) (moves []) ∷
+    asked (lookupOf 2) (foundAt 72057594037927936 361700864190382082 []) ∷ []
 
 -- stores.txt, history 14; 20 calls after fresh, less those that the list says in part
 unfoldable pub sample5 : List Asked

@@ -46,3 +46,5 @@ pub const POKE_CARRIED: u64 = 23;
 pub const SNAPSHOT_LENGTH: u64 = 24;
 
 pub const SNAPSHOT_WRITE: u64 = 25;
+
+pub const PAGE: u64 = 26;

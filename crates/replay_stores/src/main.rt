@@ -10,6 +10,7 @@ mod columns;
 mod history;
 mod kinds;
 mod lines;
+mod pages;
 mod pokes;
 mod reads;
 

@@ -1,7 +1,8 @@
-// Lines that only read: lookups, lists of what to move, counters, snapshots, and peeks.
+// Lines that only read: lookups of one id and of a page, lists of what to move, counters, snapshots, and peeks.
 ghost use Prim.Native.Nat.{_≤_};
 use crate::columns;
 use crate::kinds;
+use crate::pages;
 use crate::pokes;
 use replay_words::line;
 use replay_words::ratios;
@@ -210,6 +211,19 @@ pub fn agrees(
     match line::kind(line) {
         kinds::LOOKUP => {
             lookup(
+                ids,
+                slots,
+                id_marks,
+                locations,
+                slot_marks,
+                owners,
+                tallies,
+                carried,
+                line,
+            )
+        }
+        kinds::PAGE => {
+            pages::page(
                 ids,
                 slots,
                 id_marks,

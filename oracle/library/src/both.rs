@@ -9,7 +9,7 @@ use crate::judge::{Judge, Rust};
 use crate::mapper_store::MapperStore;
 use crate::our_heap::OurHeap;
 use crate::ours::Ours;
-use crate::rows::Carried;
+use crate::rows::{kept_told, Carried};
 use crate::{answer, cuts, full, histories, leaf_lines, snapshots, tiny, Store};
 
 #[derive(Default)]
@@ -100,14 +100,37 @@ impl Both {
         snapshots::expected(&rows, &ours.written)
     }
 
+    /// The Rust's answer to a line, be it a panic.
+    fn rust_answers(&mut self, line: &str) -> String {
+        let rust = &mut self.rust;
+        catch_unwind(AssertUnwindSafe(|| answer(&mut **rust, line))).unwrap_or_else(|_| "a panic of the Rust".into())
+    }
+
+    /// What the Rust answers of each id by itself, with what its row was offered with; where document 01 refuses that, the number and zeros.
+    fn page(&mut self, ids: &[u64]) -> String {
+        let held = self.judge().held();
+        let mut page = String::from("ok");
+        for id in ids {
+            if !self.judge().is_stored(&held, *id) {
+                page += " 8 0 0 -";
+                continue;
+            }
+            let location = self.rust_answers(&Call::Lookup(*id).line(self.ids, self.slots)).replacen("ok", "", 1);
+            page += &format!(" 0{location} {}", kept_told(&self.ours.ours().tables.rows[*id as usize]));
+        }
+        page
+    }
+
     /// The Rust's answer; of a cut, which is a listed difference, in the port's words; and of what it has not, what its state makes of it.
     fn rust_says(&mut self, counts: &mut Counts, call: &Call, line: &str) -> String {
         if matches!(call, Call::Snapshot) {
             return self.snapshot();
         }
+        if let Call::Page(ids) = call {
+            return self.page(ids);
+        }
         let marks = self.rust.files().map(cuts::high_marks);
-        let rust = &mut self.rust;
-        let said = catch_unwind(AssertUnwindSafe(|| answer(&mut **rust, line))).unwrap_or_else(|_| "a panic of the Rust".into());
+        let said = self.rust_answers(line);
         let (Some(heap), Some(marks)) = (self.rust.files(), marks) else {
             return said;
         };

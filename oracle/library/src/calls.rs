@@ -9,6 +9,8 @@ pub enum Call {
     Rebuild(Vec<(u64, u64)>),
     NewId,
     Lookup(u64),
+    /// As many lookups in one call. The Rust has none but single ones.
+    Page(Vec<u64>),
     Offer(Vec<Update>),
     Commit,
     Abandon,
@@ -40,6 +42,10 @@ impl Call {
             }),
             Call::NewId => "new_id".into(),
             Call::Lookup(id) => format!("lookup {id}"),
+            Call::Page(ids) => ids.iter().fold(format!("page {}", ids.len()), |mut line, id| {
+                write!(line, " {id}").unwrap();
+                line
+            }),
             Call::Offer(updates) => listed("offer", updates),
             Call::Commit => "commit".into(),
             Call::Abandon => "abandon".into(),

@@ -2,7 +2,7 @@
 use crate::both::{Both, Counts};
 use crate::calls::Call;
 use crate::chance::Chance;
-use crate::tables::{Update, MOST_UPDATES};
+use crate::tables::{Update, MOST_ASKED, MOST_UPDATES};
 
 const CAPACITY: u64 = 65_536;
 const RATIOS: [u32; 4] = [0x3F80_0000, 0x3F40_0000, 0x3F00_0000, 0x3E80_0000];
@@ -39,6 +39,10 @@ impl Full<'_> {
         self.call(Call::Counters);
         self.call(Call::Snapshot);
         RATIOS.iter().for_each(|bits| self.call(Call::Defrag(*bits)));
+        // From the last id down, over all of them.
+        let page = |count: usize| Call::Page((1..CAPACITY).rev().step_by(255).take(count).collect());
+        self.call(page(MOST_ASKED));
+        self.call(page(MOST_ASKED + 1));
     }
 }
 

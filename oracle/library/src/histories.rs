@@ -108,7 +108,8 @@ impl History<'_> {
     }
 
     fn call_while_open(&mut self) -> bool {
-        match self.chance.among(0, 7) {
+        match self.chance.among(0, 8) {
+            8 => self.page(),
             7 => self.call(Call::Snapshot),
             0 => self.lookup(),
             1 => self.call(Call::Counters),
@@ -138,6 +139,22 @@ impl History<'_> {
     fn lookup(&mut self) -> bool {
         let id = self.chance.among(0, self.both.ids);
         self.call(Call::Lookup(id))
+    }
+
+    fn some_id(&mut self) -> u64 {
+        let capacity = self.both.ids;
+        match self.chance.in_hundred(10) {
+            true => self.chance.of(&[0, capacity, capacity + 1, 1 << 56, u64::MAX]),
+            false => self.chance.among(1, capacity - 1),
+        }
+    }
+
+    /// Of a few ids, now and then of as many as there may be, or one more.
+    fn page(&mut self) -> bool {
+        let few = self.chance.among(0, 12);
+        let count = if self.chance.in_hundred(96) { few } else { self.chance.of(&[255, 256, 257]) };
+        let ids = (0..count).map(|_| self.some_id()).collect();
+        self.call(Call::Page(ids))
     }
 
     fn defrag(&mut self) -> bool {
@@ -195,7 +212,7 @@ impl History<'_> {
     /// Ends at the first difference: the two sides part there.
     fn run(&mut self, calls: u64) {
         for _ in 0..calls {
-            let agree = match self.chance.among(0, 104) {
+            let agree = match self.chance.among(0, 107) {
                 0..=24 => self.call(Call::NewId),
                 25..=54 => self.batch(),
                 55..=66 => self.call(Call::Release),
@@ -213,6 +230,7 @@ impl History<'_> {
                     self.call(if end == 0 { Call::Commit } else { Call::Abandon })
                 }
                 99..=100 => self.call(Call::Snapshot),
+                105..=107 => self.page(),
                 _ if self.on_files => self.read(),
                 _ => true,
             };

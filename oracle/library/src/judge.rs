@@ -10,7 +10,7 @@ use crate::heap_store::HeapStore;
 use crate::id_allocator::probe::free_and_tip;
 use crate::mapper_store::MapperStore;
 use crate::object_location_mapper::{probe::location, ObjectLocationMapper};
-use crate::tables::{Update, MOST_UPDATES, SLABS};
+use crate::tables::{Update, MOST_ASKED, MOST_UPDATES, SLABS};
 use crate::{Allocator, DeferredFree, Store};
 
 pub const LONGEST_OBJECT: u64 = 17_179_869_172;
@@ -85,7 +85,8 @@ impl Judge<'_> {
         let open = self.rust.is_open();
         match call {
             Call::NewId => first_of(&[(open, 11), (self.no_id_free(), 10)]),
-            Call::Lookup(id) => first_of(&[(!self.held().get(*id as usize).unwrap_or(&false) || location(self.rust.mapper(), *id) == 0, 8)]),
+            Call::Lookup(id) => first_of(&[(!self.is_stored(&self.held(), *id), 8)]),
+            Call::Page(ids) => first_of(&[(ids.len() > MOST_ASKED, 15)]),
             Call::Offer(updates) | Call::Batch(updates) => self.refused_batch(open, updates),
             Call::Commit | Call::Abandon => first_of(&[(!open, 12)]),
             Call::Release | Call::Snapshot => first_of(&[(open, 11)]),
@@ -112,6 +113,11 @@ impl Judge<'_> {
             }
         });
         held
+    }
+
+    /// Whether this id, any number, has an object.
+    pub fn is_stored(&self, held: &[bool], id: u64) -> bool {
+        *held.get(id as usize).unwrap_or(&false) && location(self.rust.mapper(), id) != 0
     }
 
     /// Id and location of each object, in order.

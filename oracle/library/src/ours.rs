@@ -3,7 +3,7 @@ use std::fmt::Write;
 use std::sync::OnceLock;
 
 use crate::rows::{kept_told, Carried};
-use crate::tables::{Refused, Tables, Update, ALLOCATORS, HINT, MOST_UPDATES, SLABS, USED, WAITING};
+use crate::tables::{row_told, PageRow, Refused, Tables, Update, ALLOCATORS, HINT, MOST_UPDATES, SLABS, USED, WAITING};
 use crate::words::Words;
 use crate::{snapshots, Store};
 
@@ -39,6 +39,11 @@ pub fn ok(numbers: impl IntoIterator<Item = u64>) -> String {
         write!(line, " {number}").unwrap();
         line
     })
+}
+
+/// The words for a page's rows, one after the other.
+fn page_told(rows: &[PageRow]) -> String {
+    rows.iter().fold("ok".into(), |line, row| format!("{line} {}", row_told(row)))
 }
 
 /// A store whose capacities a line may change.
@@ -144,6 +149,11 @@ impl Ours {
             "release" => told(tables.release(), done),
             "lookup" => told(tables.lookup(words.number()), |(location, _)| one(location)),
             "found" => told(tables.lookup(words.number()), |(location, row)| format!("ok {location} {}", kept_told(&row))),
+            "page" => {
+                let count = words.number();
+                let ids: Vec<u64> = (0..count).map(|_| words.number()).collect();
+                told(tables.lookup_page(&ids), |rows| page_told(&rows))
+            }
             "carried" => {
                 let count = words.number();
                 tables.told = Some((0..count).map(|_| Carried::read(words)).collect());

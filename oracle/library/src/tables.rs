@@ -11,6 +11,8 @@ pub const ALLOCATORS: usize = 79;
 pub const BATCH_WORDS: usize = 513;
 pub const TALLY_WORDS: usize = 473;
 pub const MOST_UPDATES: usize = 256;
+/// Ids of a page.
+pub const MOST_ASKED: usize = 256;
 pub const USED: usize = 158;
 pub const HINT: usize = 237;
 pub const WAITING: usize = 316;
@@ -39,6 +41,17 @@ pub struct Tables {
     /// Whether the tables are copied before each call, to compare them after it. Large ones are copied where a refusal is expected.
     pub watched: bool,
     pub broken: Option<String>,
+}
+
+/// A page's row: a refusal's number or 0, the location, what the row carries.
+pub type PageRow = (u64, u64, Kept);
+
+pub fn row_told((number, location, kept): &PageRow) -> String {
+    format!("{number} {location} {}", kept_told(kept))
+}
+
+fn kept_at(rows: &[u8], at: usize) -> Kept {
+    rows[at * CARRIED_WIDTH..][..CARRIED_WIDTH].try_into().unwrap()
 }
 
 #[derive(Clone, Copy, PartialEq, Eq)]
@@ -170,6 +183,34 @@ impl Tables {
             self.broken = Some(format!("{id} carries {}, not {}", kept_told(&self.rows[id as usize]), kept_told(&row)));
         }
         granted(status, (location.values()[0], row))
+    }
+
+    /// A row for each id. That it is what a lookup of its own answers is seen here.
+    pub fn lookup_page(&mut self, ids: &[u64]) -> Result<Vec<PageRow>, Refused> {
+        let (asked, mut numbers, mut found) = (Guarded::of(ids), Guarded::<u8>::unwritten(ids.len()), Guarded::unwritten(ids.len()));
+        let mut rows = Guarded::<u8>::unwritten(ids.len() * CARRIED_WIDTH);
+        let status = lend!(
+            self, wentuhoro_lookup_page: reads id_marks, reads locations, reads slot_marks, reads owners, reads tallies, reads carried;
+            asked.as_ptr(), asked.len(), numbers.as_mut_ptr(), numbers.len(), found.as_mut_ptr(), found.len(), rows.as_mut_ptr(), rows.len()
+        );
+        self.look_at_input(&asked, ids);
+        self.look_at_answer(&numbers, status);
+        self.look_at_answer(&found, status);
+        self.look_at_answer(&rows, status);
+        if status != 0 {
+            return Err(status);
+        }
+        let row = |at: usize| (u64::from(numbers.values()[at]), found.values()[at], kept_at(rows.values(), at));
+        let page: Vec<PageRow> = (0..ids.len()).map(row).collect();
+        let watched = std::mem::replace(&mut self.watched, false);
+        for (id, row) in ids.iter().zip(&page) {
+            let single = self.lookup(*id).map_or_else(|number| (number, 0, [0; CARRIED_WIDTH]), |(location, kept)| (0, location, kept));
+            if single != *row {
+                self.broken = Some(format!("a page answers {id} with {}, a lookup with {}", row_told(row), row_told(&single)));
+            }
+        }
+        self.watched = watched;
+        Ok(page)
     }
 
     pub fn offer(&mut self, updates: &[Update]) -> Result<Vec<u64>, Refused> {
