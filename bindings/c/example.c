@@ -1,6 +1,7 @@
-/* A night at the kiosk: store eight objects of one collection, each with a key, look one up, free five, release, list what to move.
+/* A night at the kiosk: store eight objects of one collection, each with a key, look one up and then a page of them, free five, release, list what
+ * to move.
  *
- * It prints what the lookup found, and document 01's whole run. bindings/c/run builds it and compares. */
+ * It prints what the lookups found, and document 01's whole run. bindings/c/run builds it and compares. */
 #include <inttypes.h>
 #include <stdio.h>
 #include <stdlib.h>
@@ -8,7 +9,7 @@
 
 #include "wentuhoro.h"
 
-enum { IDS = 9, SLOTS = 8, OBJECTS = 8 };
+enum { IDS = 9, SLOTS = 8, OBJECTS = 8, ASKED = 4 };
 
 static void granted(const char *call, uint64_t status) {
     if (status == 0) return;
@@ -56,6 +57,25 @@ static void too_long(struct wentuhoro_store *store, uint64_t id) {
     expected(wentuhoro_store_offer(store, 1, &id, &stores, &length, &carried, &placed) == WENTUHORO_KEY_TOO_LONG, "65 bytes are no key");
 }
 
+/* What a page shows, in one call: in the order asked, and as often. There is no object 9, which spoils no other row. */
+static void look_up_page(const struct wentuhoro_store *store, const uint64_t *placed) {
+    const uint64_t asked[ASKED] = {8, 9, 2, 8};
+    uint8_t numbers[ASKED];
+    uint64_t found[ASKED];
+    struct wentuhoro_kept rows[ASKED];
+    granted("lookup_page", wentuhoro_store_lookup_page(store, ASKED, asked, numbers, found, rows));
+    for (size_t i = 0; i < ASKED; i++) {
+        if (numbers[i] != 0) {
+            printf("object %" PRIu64 " is refused with %u\n", asked[i], (unsigned)numbers[i]);
+            continue;
+        }
+        size_t key_length;
+        const uint8_t *key = wentuhoro_kept_key(&rows[i], &key_length);
+        printf("object %" PRIu64 " has the key %.*s\n", asked[i], (int)key_length, (const char *)key);
+        expected(found[i] == placed[asked[i] - 1], "a page's object lies where the offer placed it");
+    }
+}
+
 int main(void) {
     static uint8_t id_marks[IDS], slot_marks[WENTUHORO_SLABS * SLOTS];
     static uint64_t locations[IDS], owners[WENTUHORO_SLABS * SLOTS], batch[WENTUHORO_BATCH_WORDS], tallies[WENTUHORO_TALLY_WORDS];
@@ -88,6 +108,7 @@ int main(void) {
     const uint8_t *key = wentuhoro_kept_key(&found, &key_length);
     printf("object 6 is of collection %" PRIu64 " and has the key %.*s\n", found.collection, (int)key_length, (const char *)key);
     expected(memcmp(&found, &rows[6], sizeof found) == 0, "what is found is the table's own row");
+    look_up_page(&store, placed);
 
     const uint64_t freed[] = {1, 2, 3, 5, 7};
     const uint8_t none[5] = {0, 0, 0, 0, 0};

@@ -33,6 +33,12 @@ static void lookup(void) {
     static uint64_t location;
     status = wentuhoro_store_lookup(&store, 1, &location, &carried);
 }
+static void lookup_page(void) {
+    static struct wentuhoro_kept carried[WENTUHORO_MOST_PAGE];
+    static uint64_t found[WENTUHORO_MOST_PAGE];
+    static uint8_t numbers[WENTUHORO_MOST_PAGE];
+    status = wentuhoro_store_lookup_page(&store, WENTUHORO_MOST_PAGE, ids, numbers, found, carried);
+}
 static void snapshot_length(void) { status = wentuhoro_store_snapshot_length(&store, &file_len); }
 static void snapshot_write(void) { status = wentuhoro_store_snapshot_write(&store, file, (size_t)file_len); }
 static void snapshot_read(void) {
@@ -134,6 +140,7 @@ int main(void) {
     over += measure("fresh", fresh, thread, 0);
     over += measure("rebuild", rebuild, thread, 65);
     over += measure("lookup", lookup, thread, 0);
+    over += measure("lookup_page", lookup_page, thread, 0);
     over += measure("snapshot_length", snapshot_length, thread, 0);
     over += measure("snapshot_write", snapshot_write, thread, 0);
     over += measure("snapshot_read", snapshot_read, thread, 0);

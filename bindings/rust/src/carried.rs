@@ -1,8 +1,9 @@
 /// What an object's row carries beside its location: its collection, and its low key. The store keeps them, and placement never looks at them. Later
 /// versions carry more.
 ///
-/// The key is borrowed: of the caller where a row is stored, of the store's own table where one is found, of the snapshot's bytes where one is read.
-/// It has up to [`MOST_KEY`](Self::MOST_KEY) bytes; a longer one can be said, and is refused with 21 by what would store it.
+/// The key is borrowed: of the caller where a row is stored, of the store's own table where one is found, of the [`Page`](crate::Page) where a page's are,
+/// of the snapshot's bytes where one is read. It has up to [`MOST_KEY`](Self::MOST_KEY) bytes; a longer one can be said, and is refused with 21 by what
+/// would store it.
 ///
 /// ```
 /// use wentuhoro::{Carried, Store, Update};

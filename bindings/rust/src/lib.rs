@@ -19,6 +19,11 @@
 //! let found = store.find(6)?;
 //! assert_eq!((found.location, found.carried.key), (placed[5].unwrap(), &b"icons/lamp"[..]));
 //!
+//! // A page asks for all that it shows at once. An unknown id spoils no other row.
+//! let page = store.get_locations_for_objects(&[6, 9, 2])?;
+//! let slots: Vec<Option<usize>> = page.iter().map(|found| Some(found.ok()?.location.slot())).collect();
+//! assert_eq!(slots, [Some(5), None, Some(1)]);
+//!
 //! // What is freed is pending until a release, so that a reader's slot is not overwritten under it.
 //! store.offer(&[1, 2, 3, 5, 7].map(Update::free))?;
 //! store.commit()?;
@@ -36,11 +41,12 @@
 //! # Ok::<(), wentuhoro::Refusal>(())
 //! ```
 //!
-//! Beside the store: [`snapshot`] for its live rows as bytes, [`slab_for_size`] and [`SLAB_SIZES`], [`Slab`] for an object in its slot,
-//! [`crc32`], [`PersistentSettings`] for the settings cookie, [`SlabAddress`] for a slab and a slot, [`fragmentation_cutoff`]. [`raw`] has the
-//! exported calls as they are.
+//! Beside the store: [`Page`] for its answers to many ids at once, [`snapshot`] for its live rows as bytes, [`slab_for_size`] and [`SLAB_SIZES`],
+//! [`Slab`] for an object in its slot, [`crc32`], [`PersistentSettings`] for the settings cookie, [`SlabAddress`] for a slab and a slot,
+//! [`fragmentation_cutoff`]. [`raw`] has the exported calls as they are.
 mod address;
 mod carried;
+mod page;
 pub mod raw;
 mod refusal;
 mod settings;
@@ -50,6 +56,7 @@ mod store;
 
 pub use address::SlabAddress;
 pub use carried::Carried;
+pub use page::{Page, PageRows};
 pub use refusal::{Refusal, RefusalKind};
 pub use settings::PersistentSettings;
 pub use slab::{crc32, crc32_update, fragmentation_cutoff, slab_for_size, slab_sizes, Slab, SLAB_SIZES};

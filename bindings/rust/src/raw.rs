@@ -94,6 +94,30 @@ extern "C" {
         row: *mut u8,
         row_len: usize,
     ) -> u64;
+    pub fn wentuhoro_lookup_page(
+        ids: usize,
+        slots: usize,
+        id_marks: *const u8,
+        id_marks_len: usize,
+        locations: *const u64,
+        locations_len: usize,
+        slot_marks: *const u8,
+        slot_marks_len: usize,
+        owners: *const u64,
+        owners_len: usize,
+        tallies: *const u64,
+        tallies_len: usize,
+        carried: *const u8,
+        carried_len: usize,
+        asked: *const u64,
+        asked_len: usize,
+        numbers: *mut u8,
+        numbers_len: usize,
+        found: *mut u64,
+        found_len: usize,
+        rows: *mut u8,
+        rows_len: usize,
+    ) -> u64;
     /// In `stores` 0 frees, any other byte stores.
     pub fn wentuhoro_offer(
         ids: usize,

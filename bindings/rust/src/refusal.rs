@@ -80,7 +80,7 @@ kinds! {
     TablesDisagree = 13,
     /// A fill ratio or a target t out of range.
     RatioOutOfRange = 14,
-    /// Over 256 updates.
+    /// Over 256 updates, or ids of a page.
     TooMany = 15,
     /// A rebuild row has an earlier row's location.
     RepeatedLocation = 16,

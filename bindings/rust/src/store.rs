@@ -1,5 +1,5 @@
 use crate::snapshot::{self, Lists};
-use crate::{raw, Carried, Refusal, SlabAddress};
+use crate::{raw, Carried, Page, Refusal, SlabAddress};
 
 const MOST_UPDATES: usize = 256;
 const BATCH_WORDS: usize = 513;
@@ -67,7 +67,8 @@ pub struct Row<'a> {
     pub carried: Carried<'a>,
 }
 
-/// What a lookup answers. The key is the store's own bytes, so that the answer is gone when the store changes; a key that is kept is copied.
+/// What a lookup answers. The key is the store's own bytes, so that the answer is gone when the store changes; a key that is kept is copied. Of a
+/// [`Page`] it is the page's, which stands when the store changes.
 ///
 /// ```
 /// use wentuhoro::{Carried, Found, Row, SlabAddress, Store};
@@ -108,7 +109,7 @@ pub struct Cut {
 /// Makes a call on the store's tables, each passed as a pointer and a length, then the call's own words.
 macro_rules! lend {
     ($store:ident, $call:ident: $($how:ident $table:ident),* $(; $($word:expr),*)?) => {
-        // The tables are seven boxes, so none overlaps another; what is passed beside them is a local's.
+        // The tables are seven boxes, so none overlaps another; what is passed beside them is a local's, or lent by the caller for this call.
         Refusal::unless_granted(unsafe {
             raw::$call($store.ids, $store.slots, $(pointer!($how $store $table), $store.$table.len(),)* $($($word),*)?)
         })
@@ -324,6 +325,80 @@ impl Store {
         let location = SlabAddress::of(location).expect("a granted lookup has a location");
         // The row that was answered is the table's own.
         Ok(Found { location, carried: Carried::kept(&self.carried[id as usize * Carried::WIDTH..][..Carried::WIDTH]) })
+    }
+
+    /// Many lookups in one call: a row for each id, in the order asked, as [`find`](Self::find) answers it. An id may come twice; one that is not held or
+    /// has no location has the refusal 8 in its row, and the other rows do not depend on it. An open batch does not matter: what it stores is seen once
+    /// it is committed.
+    ///
+    /// The page has its own copy of the rows, and stands when the store changes. Refuses over 256 ids with 15.
+    ///
+    /// ```
+    /// # use wentuhoro::{Carried, Store, Update};
+    /// # let mut store = Store::new(99, 99)?;
+    /// # let icons = (0..40).map(|_| store.allocate_object_id()).collect::<Result<Vec<u64>, _>>()?;
+    /// # let keys: Vec<String> = icons.iter().map(|id| format!("icons/{id}")).collect();
+    /// # let carried = |at: usize| Carried::of_collection(7).with_key(keys[at].as_bytes());
+    /// # store.offer(&icons.iter().enumerate().map(|(at, &id)| Update::store(id, 3).carrying(carried(at))).collect::<Vec<_>>())?;
+    /// # store.commit()?;
+    /// // A page opens 40 icons, and one of them was taken away.
+    /// store.offer(&[Update::free(icons[17])])?;
+    /// store.commit()?;
+    /// let page = store.get_locations_for_objects(&icons)?;
+    /// assert_eq!(page.len(), 40);
+    /// assert_eq!(page.get(16).unwrap()?.carried.key, b"icons/17");
+    /// assert_eq!(page.get(17).unwrap().unwrap_err().kind.number(), 8);
+    /// assert_eq!(page.get(18).unwrap()?.carried.key, b"icons/19");
+    /// # Ok::<(), wentuhoro::Refusal>(())
+    /// ```
+    pub fn get_locations_for_objects(&self, ids: &[u64]) -> Result<Page, Refusal> {
+        let mut page = Page::new();
+        self.get_locations_into(ids, &mut page)?;
+        Ok(page)
+    }
+
+    /// The same into a page that was made before, whose rows of before are gone: a browser that asks for every frame allocates once. Refuses over 256
+    /// ids with 15; the page is then as it was.
+    ///
+    /// ```
+    /// # use wentuhoro::{Page, Row, SlabAddress, Store};
+    /// # let icons: Vec<u64> = (1..=40).collect();
+    /// # let mut store = Store::new(99, 99)?;
+    /// # let rows = icons.iter().map(|&id| Ok(Row::new(id, SlabAddress::from_slab_slot(3, id as usize)?)));
+    /// # store.rebuild(&rows.collect::<Result<Vec<_>, _>>()?)?;
+    /// let mut page = Page::new();
+    /// for frame in 0..3 {
+    ///     store.get_locations_into(&icons[frame..], &mut page)?;
+    ///     assert_eq!(page.len(), 40 - frame);
+    ///     assert_eq!(page.get(0), Some(store.find(icons[frame])));
+    /// }
+    /// let before = page.clone();
+    /// assert_eq!(store.get_locations_into(&[1; 257], &mut page).unwrap_err().kind.number(), 15);
+    /// assert_eq!(page, before);
+    /// # Ok::<(), wentuhoro::Refusal>(())
+    /// ```
+    pub fn get_locations_into(&self, ids: &[u64], page: &mut Page) -> Result<(), Refusal> {
+        let before = page.len();
+        // Too many are refused however many they are: no more than one too many is lent, so that a page never grows further.
+        let asked = &ids[..ids.len().min(Page::MOST_IDS + 1)];
+        page.resize(asked.len());
+        let answer = lend!(
+            self,
+            wentuhoro_lookup_page: reads id_marks, reads locations, reads slot_marks, reads owners, reads tallies, reads carried;
+            asked.as_ptr(),
+            asked.len(),
+            page.numbers.as_mut_ptr(),
+            page.numbers.len(),
+            page.locations.as_mut_ptr(),
+            page.locations.len(),
+            page.rows.as_mut_ptr(),
+            page.rows.len()
+        );
+        if answer.is_err() {
+            // A page has fewer rows than were refused: those of before are its first.
+            page.resize(before);
+        }
+        answer
     }
 
     /// Opens a batch: takes the smallest free slot for each Store, in list order. The answer has a location for each update, none for a
