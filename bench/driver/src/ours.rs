@@ -63,6 +63,19 @@ impl Batch {
     }
 }
 
+/// Lists that a page of ids is looked up into.
+pub struct Page {
+    pub numbers: Vec<u8>,
+    pub found: Vec<u64>,
+    pub rows: Vec<u8>,
+}
+
+impl Page {
+    pub fn new(count: usize) -> Page {
+        Page { numbers: vec![0; count], found: vec![0; count], rows: vec![0; count * CARRIED_WIDTH] }
+    }
+}
+
 pub struct Ours {
     pub ids: usize,
     pub slots: usize,
@@ -126,6 +139,12 @@ impl Ours {
         lend!(self, wentuhoro_lookup: id_marks, locations, slot_marks, owners, tallies, carried;
             id, &mut location, 1, row.as_mut_ptr(), row.len());
         location
+    }
+
+    pub fn lookup_page(&mut self, asked: &[u64], page: &mut Page) {
+        lend!(self, wentuhoro_lookup_page: id_marks, locations, slot_marks, owners, tallies, carried;
+            asked.as_ptr(), asked.len(), page.numbers.as_mut_ptr(), page.numbers.len(),
+            page.found.as_mut_ptr(), page.found.len(), page.rows.as_mut_ptr(), page.rows.len());
     }
 
     /// An object's key, in the table.

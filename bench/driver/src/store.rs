@@ -1,9 +1,10 @@
 //! The store's calls, ours on lent tables and the Rust's mapper, each given the same calls; what they answer is held to be the same.
+use std::cell::RefCell;
 use std::hint::black_box;
 
 use crate::id_allocator::probe::set_free_and_tip;
 use crate::original::Original;
-use crate::ours::{brought, Batch, Ours, CARRIED_WIDTH, KEY};
+use crate::ours::{brought, Batch, Ours, Page, CARRIED_WIDTH, KEY};
 use crate::picture::Picture;
 use crate::timing::{best, Usual};
 
@@ -244,6 +245,44 @@ fn lookups(rounds: u32, picture: &mut Picture) {
     }
 }
 
+/// The ids of pages: a call for each page, and beside it a call for each id, ours and the Rust's, over the same tables. The lists that a page fills are
+/// made once, as a browser makes them.
+fn pages(rounds: u32, picture: &mut Picture) {
+    const HELD: usize = 4_096;
+    let mut table = Table::new(picture, "lookup of a page's ids, 4,096 held", "ns an id");
+    let Both { ours, mut rust } = Both::with(CAPACITY, CAPACITY, HELD, |_| 3);
+    let ours = RefCell::new(ours);
+    for count in [40, 256] {
+        let mut chance = Chance(3);
+        let ids: Vec<u64> = (0..1_024 / count * count).map(|_| 1 + chance.below(HELD) as u64).collect();
+        let mut page = Page::new(count);
+        ids.chunks(count).for_each(|asked| compare_page(&mut ours.borrow_mut(), &mut rust, asked, &mut page));
+        let mut a = |calls| {
+            let ours = &mut *ours.borrow_mut();
+            (0..calls).for_each(|_| ids.chunks(count).for_each(|asked| { ours.lookup_page(asked, &mut page); black_box(&page); }))
+        };
+        let mut b = |calls| {
+            let ours = &mut *ours.borrow_mut();
+            (0..calls).for_each(|_| ids.iter().for_each(|id| { black_box(ours.lookup(*id)); }))
+        };
+        let mut c = |calls| (0..calls).for_each(|_| ids.iter().for_each(|id| { black_box(rust.lookup(*id)); }));
+        let t = best(rounds, 10, &mut [&mut a, &mut b, &mut c]);
+        let [in_one, singly, rust] = [t[0], t[1], t[2]].map(|time| time / ids.len() as f64);
+        table.row(&format!("{count} in one call"), in_one, rust);
+        table.row(&format!("{count}, a call for each"), singly, rust);
+    }
+}
+
+/// A page has what single lookups have, and the table's rows.
+fn compare_page(ours: &mut Ours, rust: &mut Original, asked: &[u64], page: &mut Page) {
+    ours.lookup_page(asked, page);
+    for (at, id) in asked.iter().enumerate() {
+        assert_eq!((page.numbers[at], page.found[at], page.found[at]), (0, ours.lookup(*id), rust.lookup(*id)));
+        let [row, kept] = [(&page.rows, at), (&ours.carried, *id as usize)].map(|(rows, at)| &rows[CARRIED_WIDTH * at..][..CARRIED_WIDTH]);
+        assert_eq!(row, kept);
+    }
+}
+
 fn defrag(rounds: u32, picture: &mut Picture) {
     let mut table = Table::new(picture, "defrag list", "ns a call");
     // More than 65,535 objects fill no store's slabs by calls: the marks say held, which is all that a full slab's answer reads.
@@ -355,6 +394,7 @@ pub fn run(rounds: u32, picture: &mut Picture) {
     allocation(rounds, picture);
     few_slabs(rounds, picture);
     lookups(rounds, picture);
+    pages(rounds, picture);
     defrag(rounds, picture);
     rebuild(rounds, picture);
     fixed_costs(rounds, picture);
