@@ -1,12 +1,12 @@
 -- A page is as many lookups: both ask the same tables for their lengths, and then a page tells of each id what a lookup of it answers. Assumes
 -- nothing.
-use mathlib.Core.Path.{_≡_, refl, sym, ap, _∙_}
+use mathlib.Core.Path.{_≡_, refl, sym, _∙_}
 use mathlib.Core.List.{List, [], _∷_, map}
 use Prim.Native.Nat.{ℕ}
 use native.Mathlib.Omega.{arith}
 use lib.ListN.{length}
 use borrow.Author.Tests.{eq-eqb}
-use Rattle.refusal.specs.Outcomes.{granted, refused}
+use Rattle.refusal.specs.Outcomes.{granted}
 use Rattle.carried.specs.Carried.{width}
 use Rattle.model.specs.Store.{Store, found, told, ask, lookup, lookups}
 use Rattle.model.specs.Verdict.{Verdict, ok, refuse, test, _⨾_}

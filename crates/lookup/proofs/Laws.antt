@@ -38,7 +38,7 @@ use Rattle.model.specs.Tests.{lists}
 use Rattle.model.specs.Verdict.{Verdict, ok, refuse, test, _⨾_}
 use Rattle.model.proofs.Sizes.{shape-read, fits-range, fits-slot-marks, fits-carried}
 use Rattle.model.proofs.Verdicts.{test-ok, first-ok, tests-join}
-use Rattle.tables.specs.Entries.{heldIn, ownsIn, badIn}
+use Rattle.tables.specs.Entries.{heldIn, ownsIn}
 use Rattle.tables.proofs.LawsEntries.{heldIn-read, badIn-none, badIn-at, badIn-read}
 use Rattle.lookup.specs.Lookup.{lookedAnswer, locatedAs, lookedIn}
 use Rattle.lookup.specs.declared.Looked.{Looked}

@@ -19,7 +19,7 @@ use Rattle.model.specs.Memory.{Memory, read, batchOf, memoryOf, carrying
 use Rattle.model.specs.MemoryAfter.{memoryEffect, memoryAfter}
 use Rattle.model.specs.Questions.{unfound, toldBy, toldOf, askRefusal, reply}
 use Rattle.model.specs.Step.{refusalOf, refusal, grant, answer, answerBy, unless}
-use Rattle.model.specs.Store.{Row, Store, withIdMarks, withCarried, Batch, withBatch, Question, lookup, lookups, counters, defrag, snapshotLength, snapshot, Told, told, moves}
+use Rattle.model.specs.Store.{Row, Store, withIdMarks, withCarried, Batch, withBatch, Question, lookup, lookups, counters, defrag, snapshotLength, snapshot, told, moves}
 use Rattle.model.specs.Store.{Call, newId, release, offer, commit, abandon, fresh, rebuild, ask, truncation, report}
 use Rattle.model.specs.Tables.{capacities, carriedBytes, live, slabTip, badAt, kept, heldId, locationOf, carriedOf}
 use Rattle.model.specs.Tests.{shape, lists, oneOpen}

@@ -135,7 +135,7 @@ nineOfTen =
 abbrev pub defragOf : Float → ℕ → Call
 defragOf r n = ask (defrag r (replicate n 0) (replicate n 0))
 
--- a page that is asked for these ids; and with room for so many rows
+-- a page of these ids, with room for so many rows; and with a row for each
 abbrev pub pageIn : ℕ → List ℕ → Call
 pageIn n is = ask (lookups (record { ids = is; numbers = replicate n 7; locations = replicate n 7; carried = replicate (n * width) 7 }))
 

@@ -1,7 +1,7 @@
 -- The invariant: the rows of the ids from p on, put into the lists as they are now, give what the rows of all ids give in the lists as they were.
 -- Assumes nothing.
 use mathlib.Core.List.{map}
-use mathlib.Core.Path.{_≡_, refl, sym, ap, _∙_}
+use mathlib.Core.Path.{_≡_, sym, ap, _∙_}
 use Prim.Native.Nat.{_-_}
 use native.Mathlib.Omega.{arith}
 use lib.ListN.{length, drop, length-set}
