@@ -7,30 +7,31 @@
 //         Unpacked::NoObject => ..,          // a location of zero
 //         Unpacked::Refused(refusal) => ..,  // 1, a capacity out of range; 3, no such slab or slot
 //     }
+#![tactic(auto)]
 ghost use Rattle.std.specs.Prelude.{◌≡◌};
 ghost use Rattle.address.specs.Address.{bad_slots, made_of, packed, unpacked};
 
 use refusal::Refusal;
 
-#[derive(Drop)]
+#[derive(Clone, Copy)]
 pub struct SlabAddress {
     pub slab: usize,
     pub slot: usize,
 }
 
-#[derive(Drop)]
+#[derive(Clone, Copy)]
 pub enum Made {
     At(SlabAddress),
     Refused(Refusal),
 }
 
-#[derive(Drop)]
+#[derive(Clone, Copy)]
 pub enum Packed {
     Location(u64),
     Refused(Refusal),
 }
 
-#[derive(Drop)]
+#[derive(Clone, Copy)]
 pub enum Unpacked {
     At(SlabAddress),
     NoObject,

@@ -8,6 +8,7 @@
 // All kept updates are checked against the tables as they are found (check.rt), then applied in list order, where nothing can
 // fail: what is written at a location that is none is written nowhere. An update takes a handful of loads and stores; only the
 // first that makes a number of an allocator pending since its last release passes over the allocator's marks.
+#![tactic(auto)]
 mod check;
 
 ghost use Rattle.std.specs.Prelude.{false, ◌≡◌, ◌+◌, ◌*◌, ◌<◌, ◌≤◌, length, get_or};

@@ -4,6 +4,7 @@
 //
 // A word that was read is not divided: it is put off, to words that are still to come. Five words are pending at most. Where many words come
 // they are put off far, by few shifts; near the end by more, and less far; the last is divided.
+#![tactic(auto)]
 ghost use Rattle.std.specs.Prelude.{◌≡◌, ℕ, ◌+◌, ◌-◌, ◌*◌, ◌/◌, ◌%◌, ◌<◌, ◌≤◌, ◌^◌, length, drop};
 ghost use Rattle.std.specs.Int.Bits.{bit_xor};
 ghost use Rattle.little_endian.specs.LittleEndian.{word};
@@ -15,7 +16,7 @@ mod load;
 use crate::load::load;
 
 // What is still to be taken into the bytes to come, the lowest word first.
-#[derive(Drop)]
+#[derive(Clone, Copy)]
 struct Pend {
     a: u64,
     b: u64,
@@ -196,7 +197,7 @@ fn far_at(z: Pend, s: &[u8], i: usize) -> Pend
     far(z, load(s, i))
 }
 
-#[derive(Drop)]
+#[derive(Clone, Copy)]
 struct At {
     z: Pend,
     i: usize,
@@ -204,7 +205,7 @@ struct At {
 
 // Where many words come, the last five as they were put off are kept instead, the newest first: then what is pending on a word is made
 // when it is read, and two words' bits move in one instruction.
-#[derive(Drop)]
+#[derive(Clone, Copy)]
 struct Past {
     p: u64,
     q: u64,

@@ -11,7 +11,7 @@ use address::{Made, Packed, SlabAddress};
 use fragmentation::Cutoff;
 
 // The slots of a slab to look at: from the first on, below the tip.
-#[derive(Drop)]
+#[derive(Clone, Copy)]
 pub struct Span {
     pub from: usize,
     pub tip: usize,

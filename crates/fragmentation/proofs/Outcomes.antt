@@ -12,4 +12,4 @@ cutoff_back [] = C.Nothing
 cutoff_back (v ∷ vs) = C.From v
 
 pub cutoff_outcome_one : (a b : Cutoff) → cutoff_outcome a ≡ cutoff_outcome b → a ≡ b
-cutoff_outcome_one = one_by cutoff_outcome (read_back cutoff_back C.Refused) λ c. elim c [ C.From slot ↦ refl | C.Nothing ↦ refl | C.Refused r ↦ refl ]
+cutoff_outcome_one = one_by cutoff_outcome (read_back cutoff_back C.Refused) λ c. elim c as (λ k. (read_back cutoff_back C.Refused) (cutoff_outcome k) ≡ k) [ C.From slot ↦ refl | C.Nothing ↦ refl | C.Refused r ↦ refl ]

@@ -6,6 +6,7 @@
 //         Cutoff::Nothing => ..,           // full enough, or no slot below the tip
 //         Cutoff::Refused(refusal) => ..,  // 1, these are no counts of a slab; 14, this is no fill ratio
 //     }
+#![tactic(auto)]
 ghost use Rattle.std.specs.Prelude.{◌≡◌, not, min};
 ghost use Rattle.std.specs.Float.Ieee as Ieee;
 ghost use Rattle.address.specs.Address.{most_slots};
@@ -21,7 +22,7 @@ const LEADING: u32 = 0x80_0000;
 // The field of an exponent at which the digits count ones.
 const ONES: u32 = 150;
 
-#[derive(Drop)]
+#[derive(Clone, Copy)]
 pub enum Cutoff {
     From(usize),
     Nothing,

@@ -7,4 +7,4 @@ use Rattle.frame.specs.declared.Verdict.{Verdict}
 use Rattle.frame.specs.declared.Verdict.TheVariants as R
 
 pub verdict_outcome_one : (a b : Verdict) → verdict_outcome a ≡ verdict_outcome b → a ≡ b
-verdict_outcome_one = one_by verdict_outcome (read_back (λ vs. R.Object (get_or vs 0 0)) R.Refused) λ v. elim v [ R.Object n ↦ refl | R.Refused r ↦ refl ]
+verdict_outcome_one = one_by verdict_outcome (read_back (λ vs. R.Object (get_or vs 0 0)) R.Refused) λ v. elim v as (λ k. (read_back (λ vs. R.Object (get_or vs 0 0)) R.Refused) (verdict_outcome k) ≡ k) [ R.Object n ↦ refl | R.Refused r ↦ refl ]

@@ -12,6 +12,7 @@
 //
 // `Slab::read(slot)` hands back that part of the slot at once, and the empty part where the verdict refuses. The slot's
 // length says its slab, and with it the width of the length field: one body serves the widths 1, 2, 4 and 8.
+#![tactic(auto)]
 ghost use Rattle.std.specs.Prelude.{true, ◌≡◌, ◌≤◌, length};
 ghost use Rattle.sizes.specs.Sizes.{is_slab_size, longest_object};
 ghost use Rattle.frame.specs.Frame.{Writing, writing, framed, verdict_of, object_part};
@@ -21,10 +22,10 @@ use refusal::{Finished, Refusal};
 // The bytes of the smallest slot.
 const SMALLEST: usize = 64;
 
-#[derive(Drop)]
+#[derive(Clone, Copy)]
 pub struct Slab {}
 
-#[derive(Drop)]
+#[derive(Clone, Copy)]
 pub enum Verdict {
     Object(usize),
     Refused(Refusal),
@@ -51,7 +52,7 @@ fn lay(slot: &mut [u8], object: &[u8])
 {
     let start = longest_in(slot);
     let end = slot.len() - seal::CHECK_WIDTH;
-    let n = bytes::copy(object, slot);
+    let n = list_parts::copy(object, slot);
     little_endian::put_at(slot, n, start, 0);
     little_endian::put_at(slot, start, end, n as u64);
     seal::write(slot);

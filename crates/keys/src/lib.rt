@@ -8,6 +8,7 @@
 //     keys::put_at(column, ids, rows);                   // a rebuild, each row at its id's
 //
 // Every function takes any lengths: where there are not as many rows as there have to be, none is too long and none is kept.
+#![tactic(auto)]
 ghost use Rattle.std.specs.Prelude.{◌≡◌, true, cond, ◌&&◌, ◌*◌, eqb, length, replicate};
 ghost use Rattle.carried.specs.Carried.{width, put_row, put_rows, up_from};
 ghost use Rattle.keys.specs.Keys.{key_is_long, kept_length, normal, normal_of, long_in, normal_rows, is_store, stores_of, all_stored, first_met};
@@ -113,9 +114,9 @@ fn write_kept(kept: &mut [u8], row: &[u8])
 {
     let length = kept_length(row);
     let end = BROUGHT_KEY + length;
-    bytes::copy(&row[0..LENGTH], kept);
+    list_parts::copy(&row[0..LENGTH], kept);
     kept[LENGTH] = length as u8;
-    bytes::copy(&row[BROUGHT_KEY..end], &mut kept[KEPT_KEY..WIDTH]);
+    list_parts::copy(&row[BROUGHT_KEY..end], &mut kept[KEPT_KEY..WIDTH]);
 }
 
 // Keeps one row as row `index`: of one that is not stored zeros.

@@ -4,6 +4,8 @@
 //     let fanout = little_endian::get_at(bytes, 2, 10);
 //
 // The part's length is the number's width, so that one function serves the widths 1, 2, 4 and 8.
+#![tactic(auto)]
+
 ghost use Rattle.std.specs.Prelude.{◌≡◌, ◌+◌, ◌*◌, ◌<◌, ◌≤◌, ◌^◌, length, take, drop};
 ghost use Rattle.little_endian.specs.LittleEndian.{word, bytes_of, get_at, put_at};
 

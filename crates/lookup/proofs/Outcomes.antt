@@ -12,7 +12,7 @@ use Rattle.lookup.specs.declared.Looked.{Looked}
 use Rattle.lookup.specs.declared.Looked.TheVariants as L
 
 pub looked_outcome_one : (a b : Looked) → looked_outcome a ≡ looked_outcome b → a ≡ b
-looked_outcome_one = one_by looked_outcome (read_back (λ vs. L.Location (get_or vs 0 0)) L.Refused) λ l. elim l [ L.Location n ↦ refl | L.Refused r ↦ refl ]
+looked_outcome_one = one_by looked_outcome (read_back (λ vs. L.Location (get_or vs 0 0)) L.Refused) λ l. elim l as (λ k. (read_back (λ vs. L.Location (get_or vs 0 0)) L.Refused) (looked_outcome k) ≡ k) [ L.Location n ↦ refl | L.Refused r ↦ refl ]
 
 pub looked_answer_outcome : (a : Looked) (row : List ℕ) → outcome_of (looked_answer a row) ≡ looked_outcome a
 looked_answer_outcome (L.Location location) row = refl

@@ -34,4 +34,4 @@ judged_back ok = J.Passed
 judged_back (refuse number index) = J.Refused (refusal number index)
 
 pub judged_verdict_one : (a b : Judged) → judged_verdict a ≡ judged_verdict b → a ≡ b
-judged_verdict_one = one_by judged_verdict judged_back λ j. elim j [ J.Passed ↦ refl | J.Refused r ↦ refl ]
+judged_verdict_one = one_by judged_verdict judged_back λ j. elim j as (λ k. judged_back (judged_verdict k) ≡ k) [ J.Passed ↦ refl | J.Refused r ↦ refl ]

@@ -13,7 +13,7 @@ use Rattle.object_ids.specs.declared.counts.Counted.TheVariants as C
 
 -- ---- a new id
 pub new_id_outcome_one : (a b : NewId) → new_id_outcome a ≡ new_id_outcome b → a ≡ b
-new_id_outcome_one = one_by new_id_outcome (read_back (λ vs. N.Id (get_or vs 0 0)) N.Refused) λ n. elim n [ N.Id id ↦ refl | N.Refused r ↦ refl ]
+new_id_outcome_one = one_by new_id_outcome (read_back (λ vs. N.Id (get_or vs 0 0)) N.Refused) λ n. elim n as (λ k. (read_back (λ vs. N.Id (get_or vs 0 0)) N.Refused) (new_id_outcome k) ≡ k) [ N.Id id ↦ refl | N.Refused r ↦ refl ]
 
 pub new_id_answer_outcome : (a : NewId) → outcome_of (new_id_answer a) ≡ new_id_outcome a
 new_id_answer_outcome (N.Id id) = refl
@@ -34,7 +34,7 @@ counted_outcome_one =
       heap_slots_freed = get_or vs 3 0;
     }))
     C.Refused)
-    λ c. elim c [ C.Stats z ↦ refl | C.Refused r ↦ refl ]
+    λ c. elim c as (λ k. (read_back (λ vs. C.Stats (record { objects_allocated = get_or vs 0 0; objects_freed = get_or vs 1 0; heap_slots_allocated = get_or vs 2 0; heap_slots_freed = get_or vs 3 0; })) C.Refused) (counted_outcome k) ≡ k) [ C.Stats z ↦ refl | C.Refused r ↦ refl ]
 
 pub counters_answer_outcome : (g f : List ℕ) (a : Counted) → outcome_of (counters_answer g f a) ≡ counted_outcome a
 counters_answer_outcome g f (C.Stats z) = refl

@@ -11,7 +11,7 @@ use crate::IDS;
 use refusal::Refusal;
 use tables::{ALLOCATORS, Capacities};
 
-#[derive(Drop)]
+#[derive(Clone, Copy)]
 pub struct AllocatorStats {
     pub objects_allocated: u64,
     pub objects_freed: u64,
@@ -19,7 +19,7 @@ pub struct AllocatorStats {
     pub heap_slots_freed: u64,
 }
 
-#[derive(Drop)]
+#[derive(Clone, Copy)]
 pub enum Counted {
     Stats(AllocatorStats),
     Refused(Refusal),

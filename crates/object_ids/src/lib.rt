@@ -7,6 +7,7 @@
 //     let Counted::Stats(stats) = object_ids::stats(caps, &tallies) else { .. };
 //
 // A search starts at the hint, so that ids given out one after the other cost the same at every capacity.
+#![tactic(auto)]
 mod counts;
 mod new_id;
 

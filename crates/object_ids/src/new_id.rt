@@ -11,7 +11,7 @@ use crate::IDS;
 use refusal::Refusal;
 use tables::Capacities;
 
-#[derive(Drop)]
+#[derive(Clone, Copy)]
 pub enum NewId {
     Id(u64),
     Refused(Refusal),

@@ -4,6 +4,7 @@
 //     offer_places::keep(&mut batch, &[4, 7, 5], &placed, 4);                                  // open, with three updates
 //
 // Neither can fail: where a slab has no free slot the location is 0, and nothing is taken.
+#![tactic(auto)]
 ghost use Rattle.std.specs.Prelude.{◌≡◌, true, false, set};
 ghost use Rattle.std.proofs.lemmas.List.Edits.{sets};
 ghost use Rattle.address.specs.Address.{bad_slots, is_location};

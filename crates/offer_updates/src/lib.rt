@@ -6,6 +6,7 @@
 //         Judged::Passed => ..,
 //         Judged::Refused(refusal) => ..,  // its index is the update's
 //     }
+#![tactic(auto)]
 ghost use Rattle.std.specs.Prelude.{◌≡◌, false, [], ℕ, ◌+◌, ◌<◌, eqb, length, get_or};
 ghost use Rattle.std.proofs.lemmas.List.Edits.{sets};
 ghost use Rattle.list_parts.specs.Lists.{elem};

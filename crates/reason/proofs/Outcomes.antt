@@ -23,7 +23,7 @@ reason_back vs =
 pub reason_outcome_one : (a b : Reason) → reason_outcome a ≡ reason_outcome b → a ≡ b
 reason_outcome_one =
     one_by reason_outcome (read_back reason_back R.Refused)
-    λ a. elim a [ R.NotStored ↦ refl | R.FullEnough w ↦ refl | R.BeforeLine w line ↦ refl | R.Listed w line ↦ refl | R.Refused r ↦ refl ]
+    λ a. elim a as (λ k. (read_back reason_back R.Refused) (reason_outcome k) ≡ k) [ R.NotStored ↦ refl | R.FullEnough w ↦ refl | R.BeforeLine w line ↦ refl | R.Listed w line ↦ refl | R.Refused r ↦ refl ]
 
 pub reason_answer_outcome : (a : Reason) → outcome_of (reason_answer a) ≡ reason_outcome a
 reason_answer_outcome R.NotStored = refl

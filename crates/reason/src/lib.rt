@@ -9,6 +9,7 @@
 //     }
 //
 // The standing is the object's slab and slot, how many smaller slots of the slab are held or pending, and the slab's live slots and tip. No table is written.
+#![tactic(auto)]
 ghost use Rattle.std.specs.Prelude.{◌≡◌, ◌<◌, take};
 ghost use Rattle.address.specs.Address.{slabs};
 ghost use Rattle.marks.specs.Marks.{count_if, is_taken};
@@ -23,7 +24,7 @@ use fragmentation::Cutoff;
 use refusal::Refusal;
 use tables::Capacities;
 
-#[derive(Drop)]
+#[derive(Clone, Copy)]
 pub struct Standing {
     pub slab: usize,
     pub slot: usize,
@@ -32,7 +33,7 @@ pub struct Standing {
     pub tip: usize,
 }
 
-#[derive(Drop)]
+#[derive(Clone, Copy)]
 pub enum Reason {
     NotStored,
     FullEnough(Standing),

@@ -6,6 +6,7 @@
 // A pass with a mark for each id finds the first row with one of the first three; ten passes with a mark for each slot, a bit of it for
 // each of eight slabs, find the first repeated location before it. So no pass is quadratic, and no lent table is touched. The marks, 64 KiB,
 // are on the stack of one pass or of the others, never of both.
+#![tactic(auto)]
 ghost use Rattle.std.specs.Prelude.{◌≡◌, true, false, ◌<◌, ◌≤◌, length, get_or, replicate};
 ghost use Rattle.address.specs.Address.{bad_slots, is_location, most_slots};
 ghost use Rattle.model.specs.Rebuild.{rows_of};
@@ -17,7 +18,7 @@ use refusal::Refusal;
 use tables::Capacities;
 
 // A row, and the number of what is wrong with it: 0 for nothing.
-#[derive(Drop)]
+#[derive(Clone, Copy)]
 pub struct Wrong {
     pub row: usize,
     pub number: u8,

@@ -19,7 +19,7 @@ read_back grants refuses (granted a) = grants a
 read_back grants refuses (refused number index) = refuses (refusal number index)
 
 pub finished_outcome_one : (a b : Finished) → finished_outcome a ≡ finished_outcome b → a ≡ b
-finished_outcome_one = one_by finished_outcome (read_back (λ vs. F.Done) F.Refused) λ f. elim f [ F.Done ↦ refl | F.Refused r ↦ refl ]
+finished_outcome_one = one_by finished_outcome (read_back (λ vs. F.Done) F.Refused) λ f. elim f as (λ k. (read_back (λ vs. F.Done) F.Refused) (finished_outcome k) ≡ k) [ F.Done ↦ refl | F.Refused r ↦ refl ]
 
 pub judged_outcome_one : (a b : Judged) → judged_outcome a ≡ judged_outcome b → a ≡ b
-judged_outcome_one = one_by judged_outcome (read_back (λ vs. J.Passed) J.Refused) λ j. elim j [ J.Passed ↦ refl | J.Refused r ↦ refl ]
+judged_outcome_one = one_by judged_outcome (read_back (λ vs. J.Passed) J.Refused) λ j. elim j as (λ k. (read_back (λ vs. J.Passed) J.Refused) (judged_outcome k) ≡ k) [ J.Passed ↦ refl | J.Refused r ↦ refl ]

@@ -4,24 +4,26 @@
 //
 // The index counts from 0: the update's where the refusal is given per update, the row's where per row, the slab's where a
 // batch finds no free slot, and 0 elsewhere. Numbers from 18 on are document 02's.
+#![tactic(auto)]
+
 ghost use Rattle.std.specs.Prelude.{◌≡◌};
 ghost use Rattle.refusal.specs.Refusals.{refusal};
 
-#[derive(Drop)]
+#[derive(Clone, Copy)]
 pub struct Refusal {
     pub number: u8,
     pub index: usize,
 }
 
 // What a call answers that grants nothing but that it was done.
-#[derive(Drop)]
+#[derive(Clone, Copy)]
 pub enum Finished {
     Done,
     Refused(Refusal),
 }
 
 // What a test says that only reads: nothing is refused so far, or this is.
-#[derive(Drop)]
+#[derive(Clone, Copy)]
 pub enum Judged {
     Passed,
     Refused(Refusal),

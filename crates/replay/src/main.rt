@@ -3,6 +3,7 @@
 // differ, of which the first few are named by their line in the readable list. A line of no kind counts as one that differs.
 //
 // oracle/replay_data makes data/ of oracle/answers/*.txt, and stdout by counting there. The words of a line are in oracle/answers/README.md.
+#![tactic(auto)]
 mod calls;
 mod numbers;
 mod said;

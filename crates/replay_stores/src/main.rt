@@ -4,6 +4,7 @@
 // differs, as a call does.
 //
 // data/ and stdout are made by oracle/replay_data. The words of a line are in oracle/answers/README.md.
+#![tactic(auto)]
 mod allocators;
 mod batches;
 mod columns;

@@ -5,6 +5,7 @@
 //     line::says_one(line, status, slab)  // whether the line says this answer
 //
 // For the programs `replay` and `replay_stores`, which make each call on the exported library and compare.
+#![tactic(auto)]
 pub mod file;
 pub mod line;
 pub mod ratios;

@@ -5,7 +5,7 @@ ghost use Rattle.replay_words.specs.Tallies.{more, nothing, tally_with};
 use crate::line;
 use libc::STDOUT_FILENO;
 
-#[derive(Drop)]
+#[derive(Clone, Copy)]
 pub struct Tally {
     calls: u64,
     rusts: u64,

@@ -5,6 +5,7 @@
 //         Judged::Passed => ..,
 //         Judged::Refused(refusal) => ..,  // 1, too short; 4, the check differs; 6, another version; 7, another fanout
 //     }
+#![tactic(auto)]
 ghost use Rattle.std.specs.Prelude.{◌≡◌};
 ghost use Rattle.settings.specs.Settings.{Storing, storing, settings_of, agreement};
 
@@ -21,7 +22,7 @@ const PADDING: usize = 10;
 const CHECK: usize = 60;
 
 // What a cookie says.
-#[derive(Drop)]
+#[derive(Clone, Copy)]
 pub enum PersistentSettings {
     V1 { leaf_fanout: u64 },
     Refused(Refusal),

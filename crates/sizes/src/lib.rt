@@ -4,6 +4,7 @@
 //         Class::Slab(slab) => ..,        // slab 1: 60 bytes and their frame need 65 of its 80
 //         Class::Refused(refusal) => ..,  // 2, beyond the largest class
 //     }
+#![tactic(auto)]
 ghost use Rattle.std.specs.Prelude.{◌≡◌, cond, ◌&&◌, ◌≤◌, ◌<◌, eqb, leb, length};
 ghost use Rattle.sizes.specs.Sizes.{slabs, slab_sizes, size_of, is_slab_size, field_width, longest_object, slab_for, class_of};
 ghost use Rattle.sizes.specs.Table.{Ascends, ClassRule};
@@ -113,7 +114,7 @@ pub const SLAB_SIZES: [u64; SLABS] = [
     17179869184,
 ];
 
-#[derive(Drop)]
+#[derive(Clone, Copy)]
 pub enum Class {
     Slab(usize),
     Refused(Refusal),

@@ -15,4 +15,4 @@ step_back (v ∷ vs) =
     (record { block = get_or vs 2 0; row = get_or vs 3 0 })
 
 pub step_outcome_one : (a b : Step) → step_outcome a ≡ step_outcome b → a ≡ b
-step_outcome_one = one_by step_outcome (read_back step_back S.Refused) λ s. elim s [ S.Row r next ↦ refl | S.End ↦ refl | S.Refused r ↦ refl ]
+step_outcome_one = one_by step_outcome (read_back step_back S.Refused) λ s. elim s as (λ k. (read_back step_back S.Refused) (step_outcome k) ≡ k) [ S.Row r next ↦ refl | S.End ↦ refl | S.Refused r ↦ refl ]

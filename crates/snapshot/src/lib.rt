@@ -11,6 +11,7 @@
 //
 // A step judges the whole block that it reads from, so that a position of any origin is legal. Where the whole file is wanted,
 // snapshot_lists judges each block once.
+#![tactic(auto)]
 ghost use Rattle.std.specs.Prelude.{◌≡◌, ◌+◌, ◌<◌, ◌≤◌, ◌^◌};
 ghost use Rattle.snapshot_blocks.specs.declared.Row.{Row};
 ghost use Rattle.snapshot_blocks.specs.Blocks.{count_in, version_in};
@@ -22,13 +23,13 @@ use refusal::Refusal;
 use snapshot_blocks::{BLOCK, Row};
 
 // Where the next row is: its block, and its place there.
-#[derive(Drop)]
+#[derive(Clone, Copy)]
 pub struct Position {
     pub block: usize,
     pub row: usize,
 }
 
-#[derive(Drop)]
+#[derive(Clone, Copy)]
 pub enum Step {
     Row(Row, Position),
     End,

@@ -7,6 +7,7 @@
 //
 // What a row carries is written as a rebuild takes it: the collection, the key's length in eight bytes, and the key, filled with zeros to 64 bytes. The
 // blocks of a file that is right are all of the version of the first, which says how wide a row is and how many fit a block.
+#![tactic(auto)]
 ghost use Rattle.std.specs.Prelude.{◌++◌, ◌≡◌, true, false, cond, ℕ, ◌+◌, ◌-◌, ◌*◌, ◌/◌, ◌%◌, ◌^◌, ◌≤◌, ◌<◌, ltb, length, set, take, drop, replicate};
 ghost use Rattle.little_endian.specs.LittleEndian.{bytes_of, get_at};
 ghost use Rattle.carried.specs.Carried.{width, put_row};
@@ -31,7 +32,7 @@ const BROUGHT_LENGTH: usize = 8;
 
 const BROUGHT_KEY: usize = 16;
 
-#[derive(Drop)]
+#[derive(Clone, Copy)]
 pub enum Taken {
     Rows(usize),
     Refused(Refusal),
@@ -104,9 +105,9 @@ fn write_brought(row: &[u8], long: usize, to: &mut [u8])
         ++ (bytes_of 8 long ++ (take long (drop 25 row.now) ++ replicate (64 - long) 0)) }
 {
     let end = KEY_AT + long;
-    bytes::copy(&row[COLLECTION_AT..LOCATION_AT], to);
+    list_parts::copy(&row[COLLECTION_AT..LOCATION_AT], to);
     little_endian::put_at(to, BROUGHT_LENGTH, BROUGHT_KEY, long as u64);
-    bytes::copy(&row[KEY_AT..end], &mut to[BROUGHT_KEY..WIDTH]);
+    list_parts::copy(&row[KEY_AT..end], &mut to[BROUGHT_KEY..WIDTH]);
 }
 
 // Puts the row that these bytes start with, and that carries so many bytes, into the lists at p.

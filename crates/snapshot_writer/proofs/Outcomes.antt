@@ -16,7 +16,7 @@ use Rattle.snapshot_writer.specs.declared.Measured.TheVariants as M
 
 -- ---- the length of a snapshot
 pub measured_outcome_one : (a b : Measured) → measured_outcome a ≡ measured_outcome b → a ≡ b
-measured_outcome_one = one_by measured_outcome (read_back (λ vs. M.Bytes (get_or vs 0 0)) M.Refused) λ m. elim m [ M.Bytes n ↦ refl | M.Refused r ↦ refl ]
+measured_outcome_one = one_by measured_outcome (read_back (λ vs. M.Bytes (get_or vs 0 0)) M.Refused) λ m. elim m as (λ k. (read_back (λ vs. M.Bytes (get_or vs 0 0)) M.Refused) (measured_outcome k) ≡ k) [ M.Bytes n ↦ refl | M.Refused r ↦ refl ]
 
 pub measured_answer_outcome : (a : Measured) → outcome_of (measured_answer a) ≡ measured_outcome a
 measured_answer_outcome (M.Bytes n) = refl

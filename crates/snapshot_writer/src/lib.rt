@@ -12,6 +12,7 @@
 //
 // A row is a held id above 0 with a location; rows stand in the order of their ids. The ids are passed over three times: for the count,
 // for the check of locations, and for the blocks, of which each gathers its ids and is written from the tables at once.
+#![tactic(auto)]
 ghost use Rattle.std.specs.Prelude.{cond, ◌&&◌, ◌≡◌, map, ◌+◌, ◌-◌, ◌*◌, ◌/◌, ◌≤◌, ◌<◌, length, take, drop};
 ghost use Rattle.snapshot_blocks.specs.Formats.{version2};
 ghost use Rattle.snapshot_blocks.specs.Blocks.{entry_for};
@@ -29,14 +30,14 @@ use snapshot_blocks::{BLOCK, PER_BLOCK};
 use tables::{Capacities, get};
 
 // How long a file is.
-#[derive(Drop)]
+#[derive(Clone, Copy)]
 pub enum Measured {
     Bytes(usize),
     Refused(Refusal),
 }
 
 // The ids of a block's rows: how many there are in the lent list, and where the search for the next ones goes on.
-#[derive(Drop)]
+#[derive(Clone, Copy)]
 struct Gathered {
     count: usize,
     next: usize,

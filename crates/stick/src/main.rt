@@ -2,6 +2,7 @@
 // then a sentence: how many rows there are, or which block was refused and why. A key is written in quotes, or by its bytes: "icons/lamp", 0x00ff.
 //
 // A file is read row by row, so that the rows before a damaged block are shown.
+#![tactic(auto)]
 ghost use Rattle.std.specs.Prelude.{◌≡◌, length};
 ghost use Rattle.stick.specs.Space.{zeros};
 

@@ -7,7 +7,7 @@ use crate::{MOST_UPDATES, both};
 use address::SlabAddress;
 use carried::WIDTH;
 
-#[derive(Drop)]
+#[derive(Clone, Copy)]
 pub struct Capacities {
     pub ids: usize,
     pub slots: usize,

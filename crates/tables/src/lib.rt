@@ -7,6 +7,7 @@
 //     rebuild::fresh(caps, &mut id_marks, &mut locations, &mut slot_marks, &mut owners, &mut batch, &mut tallies, &mut carried);
 //
 // Any contents have a meaning; no function here asks anything of its caller.
+#![tactic(auto)]
 mod capacities;
 mod clear;
 mod entries;

@@ -18,7 +18,7 @@ truncated_back (suc n) length given = T.Cut length given
 pub truncated_outcome_one : (a b : Truncated) → truncated_outcome a ≡ truncated_outcome b → a ≡ b
 truncated_outcome_one =
     one_by truncated_outcome (read_back (λ vs. truncated_back (get_or vs 0 0) (get_or vs 1 0) (get_or vs 2 0)) T.Refused)
-    λ t. elim t [ T.Keep ↦ refl | T.Cut length given ↦ refl | T.Refused r ↦ refl ]
+    λ t. elim t as (λ k. (read_back (λ vs. truncated_back (get_or vs 0 0) (get_or vs 1 0) (get_or vs 2 0)) T.Refused) (truncated_outcome k) ≡ k) [ T.Keep ↦ refl | T.Cut length given ↦ refl | T.Refused r ↦ refl ]
 
 pub truncated_answer_outcome : (a : Truncated) → outcome_of (truncated_answer a) ≡ truncated_outcome a
 truncated_answer_outcome T.Keep = refl

@@ -9,6 +9,7 @@
 //     }
 //
 // The high mark is the Rust's `max_live_slot_since_last_truncation`: asking raises it to the slab's top slot, a report sets it there.
+#![tactic(auto)]
 ghost use Rattle.std.specs.Prelude.{◌≡◌, ◌*◌, ◌<◌, ◌≤◌, suc, max, ltb, length};
 ghost use Rattle.list_parts.specs.Parts.{part};
 ghost use Rattle.marks.specs.Marks.{tip};
@@ -28,7 +29,7 @@ use address::SlabAddress;
 use refusal::{Finished, Refusal};
 use tables::Capacities;
 
-#[derive(Drop)]
+#[derive(Clone, Copy)]
 pub enum Truncated {
     Keep,
     Cut { length: u64, given_back: u64 },
@@ -36,7 +37,7 @@ pub enum Truncated {
 }
 
 // The tip of a slab that may be asked for.
-#[derive(Drop)]
+#[derive(Clone, Copy)]
 enum Asked {
     Tip(usize),
     Refused(Refusal),

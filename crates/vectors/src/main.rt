@@ -1,5 +1,6 @@
 // Published check values and document 01's worked frames, run. Each line says what was asked and what came back; the file stdout
 // beside src/ has what the publications and document 01 say.
+#![tactic(auto)]
 mod addresses;
 mod checks;
 mod cookies;

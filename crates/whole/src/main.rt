@@ -1,4 +1,5 @@
 // Document 01, "Run whole": eight objects of three bytes stored in order, five freed and released, and what is to be moved then.
+#![tactic(auto)]
 use address::{SlabAddress, Unpacked};
 use carried::WIDTH;
 use defrag::Defrag;

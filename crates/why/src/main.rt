@@ -5,6 +5,7 @@
 //     why FILE ratio=0.75              // of each row of the file, in its order
 //
 // A FILE begins a group: its ratio, and ids, up to the next FILE. A snapshot has the slots that its rows hold, and nothing that is pending.
+#![tactic(auto)]
 mod answers;
 mod files;
 mod numbers;

@@ -12,13 +12,13 @@ const EXACT: u64 = 16777216;
 const MOST_PLACES: usize = 7;
 
 // What a word says, and zero where that is no number.
-#[derive(Drop)]
+#[derive(Clone, Copy)]
 pub struct Number {
     pub is_one: bool,
     pub n: u64,
 }
 
-#[derive(Drop)]
+#[derive(Clone, Copy)]
 pub enum Ratio {
     Is(f32),
     Missing,
