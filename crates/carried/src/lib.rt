@@ -7,6 +7,7 @@
 //
 // Every function takes any column: a row that is not in it reads as nothing and is not written.
 #![tactic(auto)]
+
 ghost use Rattle.std.specs.Prelude.{◌≡◌, length};
 ghost use Rattle.carried.specs.Carried.{width, put_row, row_in, kept_row};
 

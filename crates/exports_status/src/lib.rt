@@ -4,6 +4,7 @@
 //
 // 0 grants; else a status is the refusal's number plus 256 times its index.
 #![tactic(auto)]
+
 ghost use Rattle.std.specs.Prelude.{◌≡◌};
 ghost use Rattle.refusal.specs.Outcomes.{refused_as};
 ghost use Rattle.exports_status.specs.Status.{status_of};

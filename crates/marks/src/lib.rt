@@ -5,6 +5,7 @@
 // The inner loops here, in `marks_search` and in `marks_pending` run over a whole slice, each turn like the others and their results in a
 // byte, so that the compiler makes vector instructions of them.
 #![tactic(auto)]
+
 ghost use Rattle.std.specs.Prelude.{◌≡◌, map, ◌≤◌, length};
 ghost use Rattle.marks.specs.Marks.{count_if};
 ghost use Rattle.marks.specs.Turned.{is_mark, has_mark, turned};

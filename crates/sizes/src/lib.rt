@@ -5,6 +5,7 @@
 //         Class::Refused(refusal) => ..,  // 2, beyond the largest class
 //     }
 #![tactic(auto)]
+
 ghost use Rattle.std.specs.Prelude.{◌≡◌, cond, ◌&&◌, ◌≤◌, ◌<◌, eqb, leb, length};
 ghost use Rattle.sizes.specs.Sizes.{slabs, slab_sizes, size_of, is_slab_size, field_width, longest_object, slab_for, class_of};
 ghost use Rattle.sizes.specs.Table.{Ascends, ClassRule};

@@ -5,6 +5,7 @@
 // Eight bytes are a number, which is 0 exactly if they are. The bits of several are joined, and LLVM makes vector code of that. From eight bytes on
 // the last ones are looked at with others before them, so that no single ones are left over.
 #![tactic(auto)]
+
 ghost use Rattle.std.specs.Prelude.{◌≡◌, ◌+◌, ◌%◌, ◌≤◌, eqb, length};
 ghost use Rattle.zeros.specs.Zeros.{all_zero};
 

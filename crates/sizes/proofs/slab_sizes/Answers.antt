@@ -2,12 +2,8 @@
 use mathlib.Core.Path.{refl}
 use Rattle.sizes.specs.Sizes.{slab_sizes}
 use Rattle.sizes.proofs.Table.{slab_sizes_ascend, slab_sizes_class}
-use Rattle.sizes.proofs.slab_sizes.Statement.{statement}
-use Rattle.sizes.proofs.slab_sizes.Tie as tie
+use Rattle.sizes.proofs.slab_sizes.Goals as goal
 
-returns : tie.Need-returns
+pub returns : goal.returns
 unfolding slab_sizes
 returns c = (refl, (slab_sizes_ascend, slab_sizes_class))
-
-pub slab_sizes_spec : {M : Type 1} → statement M
-slab_sizes_spec = tie.close (tie.spec returns)
