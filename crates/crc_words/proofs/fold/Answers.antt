@@ -2,11 +2,7 @@
 -- Assumes nothing.
 use native.Mathlib.Omega.{arith}
 use Rattle.crc_words.proofs.Turns.{divided}
-use Rattle.crc_words.proofs.fold.Statement.{statement}
-use Rattle.crc_words.proofs.fold.Tie as tie
+use Rattle.crc_words.proofs.fold.Goals as goal
 
-returns : tie.Need-returns
+pub returns : goal.returns
 returns c = divided c.args.w (omega arith)
-
-pub fold_spec : {M : Type 1} → statement M
-fold_spec = tie.close (tie.spec returns)

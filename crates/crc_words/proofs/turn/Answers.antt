@@ -1,6 +1,5 @@
 -- `crc_words::turn` meets its contract: the law of a turn with x besides.
 -- Assumes nothing.
-use borrow.Author.Rules.{rules}
 use mathlib.Core.Path.{sym}
 use Prim.Native.Nat.{◌^◌, ◌<◌}
 use native.Mathlib.Omega.{arith}
@@ -8,22 +7,15 @@ use lib.Bits.{bit_xor, xor_lt}
 use Rattle.crc_words.specs.Fold.{past, past_of, over, pulled}
 use Rattle.crc_words.proofs.Left.{word_read}
 use Rattle.crc_words.proofs.LastWords.{past_with}
-use Rattle.crc_words.proofs.turn.Statement.{statement}
-use Rattle.crc_words.proofs.turn.Tie as tie
+use Rattle.crc_words.proofs.turn.Goals as goal
 
-load-requires : tie.Need-load-requires
-load-requires c κs = search rules
-
-pull-requires : tie.Need-pull-requires
-pull-requires c κs = search rules
-
-returns : tie.Need-returns
+pub returns : goal.returns
 returns c = λ t.
-    let s = c.before.before.before.args.s.now in
-    let h = c.before.before.before.args.h in
-    let x = c.before.before.before.args.x in
-    let i = c.before.before.before.args.i in
-    let w = c.before.load.result in
+    let s = c.args.s.now in
+    let h = c.args.h in
+    let x = c.args.x in
+    let i = c.args.i in
+    let w = c.load.result in
     let y = bit_xor (bit_xor w x) c.pull.result in
     let l : bit_xor w x < 2 ^ 64 = xor_lt 64 w x (omega arith) (omega arith) in
     let m : pulled h.q h.r h.s h.t < 2 ^ 64 = rw (sym c.pull.ensures) (omega arith) in
@@ -32,7 +24,4 @@ returns c = λ t.
     (omega arith)
     (omega arith)
     (omega arith)
-    c.before.load.ensures
-
-pub turn_spec : {M : Type 1} → statement M
-turn_spec = tie.close (tie.spec load-requires pull-requires returns)
+    c.load.ensures
