@@ -5,20 +5,17 @@ use Prim.Native.Nat.{ℕ, ◌+◌, ◌-◌}
 use native.Mathlib.Omega.{arith}
 use lib.ListN.{length, take, drop, set}
 use lib.Seq.{take-length}
+use Rattle.list_parts.proofs.Copied.{copied_whole}
 use Rattle.keys.proofs.Laws.{length_normal}
 use Rattle.keys.proofs.LawsCode.{first_written, normal_written}
 use Rattle.keys.proofs.write_kept.Goals as goal
-
--- the laws say that a whole list is copied as its first bytes, as many as it has
-whole : (from to written : List ℕ) → written ≡ from ++ drop (length from) to → written ≡ take (length from) from ++ drop (length from) to
-whole from to written e = e ∙ ap (λ x. x ++ drop (length from) to) (sym (take-length from))
 
 pub slice_bounds-copy-end-3 : goal.slice_bounds-copy-end-3
 slice_bounds-copy-end-3 c =
     let a = c.args in
     let pre = c.requires in
     let n = c.kept_length-length.result in
-    omega (arith, first_written a.row.now a.kept.now _ n pre.2 pre.1 (whole (take 8 a.row.now) a.kept.now c.copy.new.to c.copy.ensures.1))
+    omega (arith, first_written a.row.now a.kept.now _ n pre.2 pre.1 (copied_whole (take 8 a.row.now) a.kept.now c.copy.new.to c.copy.ensures.1))
 
 pub shape_of-kept : goal.shape_of-kept
 shape_of-kept c =
