@@ -2,8 +2,7 @@
 use Rattle.std.proofs.Common.{◌≡◌, ℕ, ◌*◌, ◌/◌, ◌%◌, ◌&&◌, eqb, ◌∙◌, arith, eq-eqb, eqb-true}
 use Rattle.refusal.proofs.Tests.{and_true, all, both_ways}
 use Rattle.carried.specs.Carried.{width}
-use Rattle.tables.proofs.shapes.carries.Statement.{statement}
-use Rattle.tables.proofs.shapes.carries.Tie as tie
+use Rattle.tables.proofs.shapes.carries.Goals as goal
 
 whole_rows : (b n : ℕ) → (eqb (b / width) n && eqb (b % width) 0) ≡ eqb b (n * width)
 whole_rows b n =
@@ -15,13 +14,7 @@ whole_rows b n =
     eq-eqb b (n * width) (omega arith))
     (λ h. let e = eqb-true b (n * width) h in all (eq-eqb (b / width) n (omega arith)) (eq-eqb (b % width) 0 (omega arith)))
 
-both-requires : tie.Need-both-requires
-both-requires c κs = search
-
-returns : tie.Need-returns
+pub returns : goal.returns
 returns c =
-    let a = c.before.args in
+    let a = c.args in
     c.both.ensures ∙ whole_rows a.bytes a.rows
-
-pub carries_spec : {M : Type 1} → statement M
-carries_spec = tie.close (tie.spec both-requires returns)
