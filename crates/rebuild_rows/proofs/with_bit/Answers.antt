@@ -6,19 +6,8 @@ use native.Mathlib.Omega.{arith}
 use lib.Bits.{bit_or}
 use lib.Pow.{shl_exact}
 use Rattle.rebuild_rows.specs.Checks.{with_bit}
-use borrow.Author.Rules.{rules}
-use Rattle.rebuild_rows.proofs.with_bit.Statement.{statement}
-use Rattle.rebuild_rows.proofs.with_bit.Tie as tie
+use Rattle.rebuild_rows.proofs.with_bit.Goals as goal
 
-cast-result : tie.Need-overflow-cast-result
-cast-result c = search rules
-
-shl-result : tie.Need-overflow-shl-result
-shl-result c = search rules
-
-returns : tie.Need-returns
+pub returns : goal.returns
 unfolding with_bit
 returns c = let a = c.args in ap (bit_or a.mark) (shl_exact {a = 1} 1 a.bit 8 (omega arith) (omega arith) ∙ one-mul (2 ^ a.bit))
-
-pub with_bit_spec : {M : Type 1} → statement M
-with_bit_spec = tie.close (tie.spec cast-result shl-result returns)
