@@ -1,4 +1,5 @@
 -- `rebuild::fresh` meets its contract: where the lengths are wrong nothing is written, else every table is zeros, which is a rebuild from no rows. Assumes nothing.
+use mathlib.Core.Bool.{not}
 use mathlib.Core.Path.{ap, ◌∙◌}
 use Rattle.refusal.specs.Outcomes.{refused_as}
 use Rattle.model.specs.Store as S

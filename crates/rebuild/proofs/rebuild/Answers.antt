@@ -1,4 +1,5 @@
 -- `rebuild::rebuild` meets its contract: refused by the lengths or by the first wrong row, and then nothing is written; else every table is the rows and zeros. Assumes nothing.
+use mathlib.Core.Bool.{not}
 use mathlib.Core.Path.{ap, ◌∙◌}
 use Rattle.refusal.specs.Outcomes.{refused_as}
 use Rattle.model.specs.Store as S

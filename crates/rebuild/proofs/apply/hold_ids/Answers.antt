@@ -1,5 +1,5 @@
 -- `rebuild::apply::hold_ids` meets its contract. The loop's invariant: the rows left, written into the present tables, complete what is to be written. The measure is how many rows are left. Assumes nothing.
-use Prim.Native.Nat.{◌+◌, ◌-◌}
+use Prim.Native.Nat.{◌+◌}
 use mathlib.Core.Path.{◌≡◌, ap, sym, ◌∙◌}
 use lib.ListN.{length, get_or, set, length-set}
 use native.Mathlib.Omega.{arith}
