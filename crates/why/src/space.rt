@@ -1,8 +1,9 @@
-// What stands on the stack, which has 8 MiB by Linux's default: a file of 1,677,825 bytes, the lists of its rows, 1,597,440, and the tables of its store,
-// 4,361,936. Compiled without optimising, as `rt try` does too, the program lays some of it there more than once and wants `ulimit -s 65536`.
+// The long arrays: a file of 1,677,825 bytes, the lists of its rows, 1,597,440, and the tables of its store, 4,361,936.
 //
-// Each long array is made by a function of its own, and its contract says the length and no more, so that no caller's proof has to look at so many zeros.
-ghost use Rattle.std.specs.Prelude.{◌≡◌, length};
+// Each is made by a function of its own, and its contract says the length and no more, so that no caller's proof has to look at so many zeros.
+ghost use Rattle.std.specs.Prelude.{◌≡◌, length, IfOk};
+
+use std::alloc::{AllocError, Global};
 
 pub const IDS: usize = 16384;
 
@@ -20,44 +21,44 @@ const CARRIED: usize = 1331200;
 // One byte more than 3,277 blocks, the snapshot of 16,383 rows: a file that fills it is too long.
 pub const LONGEST: usize = 1677825;
 
-pub fn file() -> [u8; LONGEST]
-    ensures { 1677825 ≡ length result }
+pub fn file(alloc: Global) -> Result<Vec<u8>, AllocError>
+    ensures { IfOk result (λ bytes. 1677825 ≡ length bytes.items) }
 {
-    [0; LONGEST]
+    vec![in alloc; 0; LONGEST]
 }
 
-pub fn rows() -> [u64; ROWS]
-    ensures { 16640 ≡ length result }
+pub fn rows(alloc: Global) -> Result<Vec<u64>, AllocError>
+    ensures { IfOk result (λ rows. 16640 ≡ length rows.items) }
 {
-    [0; ROWS]
+    vec![in alloc; 0; ROWS]
 }
 
-pub fn carried() -> [u8; CARRIED]
-    ensures { 1331200 ≡ length result }
+pub fn carried(alloc: Global) -> Result<Vec<u8>, AllocError>
+    ensures { IfOk result (λ bytes. 1331200 ≡ length bytes.items) }
 {
-    [0; CARRIED]
+    vec![in alloc; 0; CARRIED]
 }
 
-pub fn id_marks() -> [u8; IDS]
-    ensures { 16384 ≡ length result }
+pub fn id_marks(alloc: Global) -> Result<Vec<u8>, AllocError>
+    ensures { IfOk result (λ marks. 16384 ≡ length marks.items) }
 {
-    [0; IDS]
+    vec![in alloc; 0; IDS]
 }
 
-pub fn locations() -> [u64; IDS]
-    ensures { 16384 ≡ length result }
+pub fn locations(alloc: Global) -> Result<Vec<u64>, AllocError>
+    ensures { IfOk result (λ locations. 16384 ≡ length locations.items) }
 {
-    [0; IDS]
+    vec![in alloc; 0; IDS]
 }
 
-pub fn slot_marks() -> [u8; ALL_SLOTS]
-    ensures { 319488 ≡ length result }
+pub fn slot_marks(alloc: Global) -> Result<Vec<u8>, AllocError>
+    ensures { IfOk result (λ marks. 319488 ≡ length marks.items) }
 {
-    [0; ALL_SLOTS]
+    vec![in alloc; 0; ALL_SLOTS]
 }
 
-pub fn owners() -> [u64; ALL_SLOTS]
-    ensures { 319488 ≡ length result }
+pub fn owners(alloc: Global) -> Result<Vec<u64>, AllocError>
+    ensures { IfOk result (λ owners. 319488 ≡ length owners.items) }
 {
-    [0; ALL_SLOTS]
+    vec![in alloc; 0; ALL_SLOTS]
 }
