@@ -20,10 +20,8 @@ fn size(rt: &impl Print, slab: usize, entry: u64) -> io::Result<()> {
 
 fn sizes_of_slabs(rt: &impl Print) -> io::Result<()> {
     let table = sizes::slab_sizes();
-    let mut slab: usize = 0;
-    while slab < SlabAddress::SLABS {
+    for slab in 0..SlabAddress::SLABS {
         size(rt, slab, table[slab])?;
-        slab += 1;
     }
     Ok(())
 }

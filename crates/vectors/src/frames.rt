@@ -22,10 +22,8 @@ fn say_verdict(rt: &impl Print, v: Verdict) -> io::Result<()> {
 
 // A pattern that no two neighbours share.
 fn fill(s: &mut [u8]) {
-    let mut i = 0;
-    while i < s.len() {
+    for i in 0..s.len() {
         s[i] = (i % 251) as u8;
-        i += 1;
     }
 }
 
