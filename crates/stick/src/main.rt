@@ -4,7 +4,7 @@
 // A file is read row by row, so that the rows before a damaged block are shown.
 #![tactic(auto)]
 
-ghost use Rattle.std.specs.Prelude.{◌≡◌, ◌≤◌, length, IfOk};
+ghost use Rattle.std.specs.Prelude.{◌≡◌, ◌≤◌, length, replicate, IfOk};
 ghost use Rattle.stick.specs.Space.{zeros};
 
 use address::{SlabAddress, Unpacked};
@@ -27,12 +27,20 @@ const PATH_MAX: usize = 4096;
 // The most slots of a slab: a snapshot does not say its store's.
 const SLOTS: usize = SlabAddress::MOST_SLOTS;
 
+// So many zeros.
+fn zeroed(alloc: Global, n: usize) -> Result<Vec<u8>, AllocError>
+    ensures value { IfOk result (λ space. space.items ≡ replicate n 0) }
+    ensures count { IfOk result (λ space. n ≡ length space.items) }
+{
+    vec![in alloc; 0; n]
+}
+
 // Its length is said besides, so that a caller need not open the definition of so long a list.
 fn space(alloc: Global) -> Result<Vec<u8>, AllocError>
     ensures value { IfOk result (λ space. space.items ≡ zeros) }
     ensures value_2 { IfOk result (λ space. 6710785 ≡ length space.items) }
 {
-    vec![in alloc; 0; LONGEST]
+    zeroed(alloc, LONGEST)
 }
 
 fn say_slot(rt: &impl Print, location: u64) -> io::Result<()> {
