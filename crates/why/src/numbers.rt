@@ -53,14 +53,12 @@ fn with_digits(from: u64, word: &[u8], at: usize, end: usize) -> Number
     requires { end ≤ length word.now }
 {
     let mut n = from;
-    let mut i = at;
-    while i < end {
+    for i in at..end {
         let more = appended(n, word[i]);
         if !more.is_one {
             return more;
         }
         n = more.n;
-        i += 1;
     }
     Number { is_one: true, n }
 }

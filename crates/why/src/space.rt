@@ -21,44 +21,56 @@ const CARRIED: usize = 1331200;
 // One byte more than 3,277 blocks, the snapshot of 16,383 rows: a file that fills it is too long.
 pub const LONGEST: usize = 1677825;
 
+fn bytes(alloc: Global, n: usize) -> Result<Vec<u8>, AllocError>
+    ensures { IfOk result (λ bytes. n ≡ length bytes.items) }
+{
+    vec![in alloc; 0; n]
+}
+
+fn words(alloc: Global, n: usize) -> Result<Vec<u64>, AllocError>
+    ensures { IfOk result (λ words. n ≡ length words.items) }
+{
+    vec![in alloc; 0; n]
+}
+
 pub fn file(alloc: Global) -> Result<Vec<u8>, AllocError>
     ensures { IfOk result (λ bytes. 1677825 ≡ length bytes.items) }
 {
-    vec![in alloc; 0; LONGEST]
+    bytes(alloc, LONGEST)
 }
 
 pub fn rows(alloc: Global) -> Result<Vec<u64>, AllocError>
     ensures { IfOk result (λ rows. 16640 ≡ length rows.items) }
 {
-    vec![in alloc; 0; ROWS]
+    words(alloc, ROWS)
 }
 
 pub fn carried(alloc: Global) -> Result<Vec<u8>, AllocError>
     ensures { IfOk result (λ bytes. 1331200 ≡ length bytes.items) }
 {
-    vec![in alloc; 0; CARRIED]
+    bytes(alloc, CARRIED)
 }
 
 pub fn id_marks(alloc: Global) -> Result<Vec<u8>, AllocError>
     ensures { IfOk result (λ marks. 16384 ≡ length marks.items) }
 {
-    vec![in alloc; 0; IDS]
+    bytes(alloc, IDS)
 }
 
 pub fn locations(alloc: Global) -> Result<Vec<u64>, AllocError>
     ensures { IfOk result (λ locations. 16384 ≡ length locations.items) }
 {
-    vec![in alloc; 0; IDS]
+    words(alloc, IDS)
 }
 
 pub fn slot_marks(alloc: Global) -> Result<Vec<u8>, AllocError>
     ensures { IfOk result (λ marks. 319488 ≡ length marks.items) }
 {
-    vec![in alloc; 0; ALL_SLOTS]
+    bytes(alloc, ALL_SLOTS)
 }
 
 pub fn owners(alloc: Global) -> Result<Vec<u64>, AllocError>
     ensures { IfOk result (λ owners. 319488 ≡ length owners.items) }
 {
-    vec![in alloc; 0; ALL_SLOTS]
+    words(alloc, ALL_SLOTS)
 }
