@@ -19,14 +19,12 @@ fn say_move(rt: &impl Print, id: u64, location: u64) -> io::Result<()> {
 
 fn say_moves(rt: &impl Print, ids: &[u64], locations: &[u64], count: usize) -> io::Result<()> {
     println!(rt; "slab slot id")?;
-    let mut i = 0;
-    while i < count {
+    for i in 0..count {
         if i < ids.len() {
             if i < locations.len() {
                 say_move(rt, ids[i], locations[i])?;
             }
         }
-        i += 1;
     }
     Ok(())
 }
