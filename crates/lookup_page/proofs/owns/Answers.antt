@@ -1,6 +1,5 @@
 -- The slab's marks are a part of the table, of which the slot is in range. Assumes nothing.
 use native.Mathlib.Omega.{arith}
-use borrow.Author.Tests.{not-true, not-false}
 use Rattle.lookup_page.proofs.Laws.{slab_within, owns_free, owns_held}
 use Rattle.lookup_page.proofs.owns.Goals as goal
 
@@ -26,7 +25,7 @@ pub returns-then-not-is_held : goal.returns-then-not-is_held
 returns-then-not-is_held c =
     let a = c.args in
     let pre = c.requires in
-    owns_free a.slots a.slot_marks.now a.owners.now a.tallies.now a.id a.address pre.0 pre.2 _ _ _ c.get-hint.ensures c.get-waiting.ensures c.is_held.ensures (not-true _ c.if-not-is_held.true-raw)
+    owns_free a.slots a.slot_marks.now a.owners.now a.tallies.now a.id a.address pre.0 pre.2 _ _ _ c.get-hint.ensures c.get-waiting.ensures c.is_held.ensures (c.if-not-is_held.true)
 
 pub overflow_add-result : goal.overflow_add-result
 overflow_add-result c =
@@ -50,4 +49,4 @@ pub returns : goal.returns
 returns c =
     let a = c.args in
     let pre = c.requires in
-    owns_held a.slots a.slot_marks.now a.owners.now a.tallies.now a.id a.address pre.0 pre.2 _ _ _ c.get-hint.ensures c.get-waiting.ensures c.is_held.ensures (not-false _ c.if-not-is_held.false-raw)
+    owns_held a.slots a.slot_marks.now a.owners.now a.tallies.now a.id a.address pre.0 pre.2 _ _ _ c.get-hint.ensures c.get-waiting.ensures c.is_held.ensures (c.if-not-is_held.false)
