@@ -167,7 +167,7 @@ fn say_opened(rt: &(impl Print + AllocGlobal), file: &mut impl Read) -> io::Resu
     say_read(rt, &space, n, is_whole)
 }
 
-// A path is text.
+// A path of std is UTF-8: a file of any other name cannot be read.
 fn open<R: Files>(rt: &R, name: &[u8]) -> io::Result<R::File> {
     match str::from_utf8(name) {
         Ok(path) => File::open(rt, path),

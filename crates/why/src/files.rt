@@ -87,7 +87,7 @@ fn answer_from(
     answer_of(rt, &bytes[0..n], ratio, end, r)
 }
 
-// A path is text.
+// A path of std is UTF-8: a file of any other name cannot be read.
 fn open<R: Files>(rt: &R, name: &[u8]) -> io::Result<R::File> {
     match str::from_utf8(name) {
         Ok(path) => File::open(rt, path),
