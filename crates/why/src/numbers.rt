@@ -1,5 +1,5 @@
 // Ids and ratios, as they are typed.
-ghost use Rattle.std.specs.Prelude.{◌≤◌, length};
+ghost use Rattle.std.specs.Prelude.{◌≡◌, ◌≢◌, ◌<◌, ◌≤◌, length, take, slice_index, All};
 
 use crate::words;
 use std::env::Env;
@@ -109,7 +109,9 @@ fn places_of(point: usize, end: usize) -> usize
 
 // The first place of a point, or the end where there is none.
 fn point_of(word: &[u8]) -> usize
-    ensures { result ≤ length word.now }
+    ensures bound { result ≤ length word.now }
+    ensures before { All (λ byte. byte ≢ 46) (take result word.now) }
+    ensures found { result < length word.now → slice_index word.now result ≡ 46 }
 {
     word.iter()
         .position(|byte| *byte == b'.')
