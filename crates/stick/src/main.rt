@@ -3,228 +3,228 @@
 //
 // A file is read row by row, so that the rows before a damaged block are shown.
 #![tactic(auto)]
-ghost use Rattle.std.specs.Prelude.{◌≡◌, length};
+
+ghost use Rattle.std.specs.Prelude.{◌≡◌, ◌≤◌, length, replicate, IfOk};
 ghost use Rattle.stick.specs.Space.{zeros};
 
 use address::{SlabAddress, Unpacked};
-use libc::{PATH_MAX, STDOUT_FILENO};
 use refusal::Refusal;
 use snapshot::{Position, Step};
 use snapshot_blocks::Row;
+use std::alloc::{AllocError, Global};
+use std::env::{Env, FillError};
+use std::fs::File;
+use std::io::{ErrorKind, Read};
+use std::rt::Files;
+use std::{io, str};
 
-// One byte more than 13,107 blocks, the snapshot of 65,535 rows, and no store has more: a file that fills it is too long. It stands on the stack, which
-// has 8 MiB by Linux's default; compiled without optimising, as `rt try` does too, the program lays it there more than once and wants `ulimit -s 65536`.
+// One byte more than 13,107 blocks, the snapshot of 65,535 rows, and no store has more: a file that fills it is too long.
 const LONGEST: usize = 6710785;
+
+// The most bytes of a file's name, with the 0 that ends it.
+const PATH_MAX: usize = 4096;
 
 // The most slots of a slab: a snapshot does not say its store's.
 const SLOTS: usize = SlabAddress::MOST_SLOTS;
 
-// Its length is said besides, so that a caller need not open the definition of so long a list.
-fn space() -> [u8; LONGEST]
-    ensures value { result ≡ zeros }
-    ensures len { 6710785 ≡ length result }
+// So many zeros.
+fn zeroed(alloc: Global, n: usize) -> Result<Vec<u8>, AllocError>
+    ensures value { IfOk result (λ space. space.items ≡ replicate n 0) }
+    ensures count { IfOk result (λ space. n ≡ length space.items) }
 {
-    [0; LONGEST]
+    vec![in alloc; 0; n]
 }
 
-fn text(words: &[u8]) {
-    io::write_all(STDOUT_FILENO, words);
+// Its length is said besides, so that a caller need not open the definition of so long a list.
+fn space(alloc: Global) -> Result<Vec<u8>, AllocError>
+    ensures value { IfOk result (λ space. space.items ≡ zeros) }
+    ensures value_2 { IfOk result (λ space. 6710785 ≡ length space.items) }
+{
+    zeroed(alloc, LONGEST)
 }
 
-fn number(n: u64) {
-    io::print_decimal(STDOUT_FILENO, n);
-}
-
-fn say_slot(location: u64) {
+fn say_slot(rt: &impl Print, location: u64) -> io::Result<()> {
     match SlabAddress::unpack(SLOTS, location) {
-        Unpacked::At(address) => {
-            number(address.slab as u64);
-            text(b" ");
-            number(address.slot as u64);
-        }
-        Unpacked::NoObject => text(b"none none"),
-        Unpacked::Refused(_) => text(b"none none"),
+        Unpacked::At(address) => print!(rt; "{} {}", address.slab, address.slot),
+        Unpacked::NoObject => print!(rt; "none none"),
+        Unpacked::Refused(_) => print!(rt; "none none"),
     }
 }
 
 // Whether a key can stand in quotes.
 fn is_plain(key: &[u8]) -> bool {
-    let mut i = 0;
-    while i < key.len() {
-        let byte = key[i];
-        if byte < b' ' || b'~' < byte || byte == b'"' {
-            return false;
-        }
-        i += 1;
-    }
-    true
+    key.iter()
+        .all(|byte| b' ' <= *byte && *byte <= b'~' && *byte != b'"')
 }
 
-fn digit(n: u8) -> u8 {
-    match n {
-        0 => b'0',
-        1 => b'1',
-        2 => b'2',
-        3 => b'3',
-        4 => b'4',
-        5 => b'5',
-        6 => b'6',
-        7 => b'7',
-        8 => b'8',
-        9 => b'9',
-        10 => b'a',
-        11 => b'b',
-        12 => b'c',
-        13 => b'd',
-        14 => b'e',
-        _ => b'f',
+fn say_bytes(rt: &impl Print, key: &[u8]) -> io::Result<()> {
+    for byte in key {
+        print!(rt; "{byte:02x}")?;
     }
+    Ok(())
 }
 
-fn say_bytes(key: &[u8]) {
-    let mut i = 0;
-    while i < key.len() {
-        let byte = key[i];
-        let pair = [digit(byte / 16), digit(byte % 16)];
-        text(&pair);
-        i += 1;
-    }
-}
-
-fn say_key(key: &[u8]) {
+fn say_key(rt: &impl Print, key: &[u8]) -> io::Result<()> {
     if is_plain(key) {
-        text(b"\"");
-        text(key);
-        text(b"\"");
-        return;
+        print!(rt; "\"")?;
+        rt.write_all(key)?;
+        return print!(rt; "\"");
     }
-    text(b"0x");
-    say_bytes(key);
+    print!(rt; "0x")?;
+    say_bytes(rt, key)
 }
 
 // The key that stands at a place of the file.
-fn say_key_at(file: &[u8], at: usize, length: usize) {
+fn say_key_at(rt: &impl Print, file: &[u8], at: usize, length: usize) -> io::Result<()> {
     if file.len() < at {
-        return;
+        return Ok(());
     }
     if file.len() - at < length {
-        return;
+        return Ok(());
     }
     let end = at + length;
-    say_key(&file[at..end]);
+    say_key(rt, &file[at..end])
 }
 
-fn say_row(file: &[u8], row: Row) {
-    number(row.id);
-    text(b" ");
-    number(row.collection);
-    text(b" ");
-    say_slot(row.location);
-    text(b" ");
-    say_key_at(file, row.key, row.length);
-    text(b"\n");
+fn say_row(rt: &impl Print, file: &[u8], row: Row) -> io::Result<()> {
+    print!(rt; "{} {} ", row.id, row.collection)?;
+    say_slot(rt, row.location)?;
+    print!(rt; " ")?;
+    say_key_at(rt, file, row.key, row.length)?;
+    println!(rt)
 }
 
-fn say_reason(number: u8) {
+fn reason(number: u8) -> &'static str {
     match number {
-        Refusal::WRONG_SHAPE => text(b"the file is empty, or no whole number of blocks"),
-        Refusal::CHECK_DIFFERS => text(b"its check differs: the file was damaged"),
-        Refusal::UNKNOWN_VERSION => text(b"its version is neither 1 nor 2"),
-        _ => text(
-            b"its number, row count, padding, row order or version, or a key in it, is wrong",
-        ),
+        Refusal::WRONG_SHAPE => "the file is empty, or no whole number of blocks",
+        Refusal::CHECK_DIFFERS => "its check differs: the file was damaged",
+        Refusal::UNKNOWN_VERSION => "its version is neither 1 nor 2",
+        _ => "its number, row count, padding, row order or version, or a key in it, is wrong",
     }
 }
 
-fn say_refusal(refusal: Refusal) {
-    text(b"block ");
-    number(refusal.index as u64);
-    text(b" is refused with ");
-    number(refusal.number as u64);
-    text(b": ");
-    say_reason(refusal.number);
-    text(b"\n");
+fn say_refusal(rt: &impl Print, refusal: Refusal) -> io::Result<()> {
+    let index = refusal.index;
+    let number = refusal.number;
+    let reason = reason(number);
+    println!(rt; "block {index} is refused with {number}: {reason}")
 }
 
 // The rows from the start; no file has more than its blocks have room for.
-fn say_rows(file: &[u8]) {
+fn say_rows(rt: &impl Print, file: &[u8]) -> io::Result<()> {
     let mut at = Position::start();
-    let mut left = file.len();
-    let mut rows: u64 = 0;
-    while 0 < left {
+    for rows in 0..file.len() {
         match at.step(file) {
             Step::Row(row, next) => {
-                say_row(file, row);
+                say_row(rt, file, row)?;
                 at = next;
-                rows += 1;
             }
-            Step::End => {
-                text(b"rows: ");
-                number(rows);
-                text(b"; every block is right\n");
-                return;
-            }
-            Step::Refused(refusal) => {
-                say_refusal(refusal);
-                return;
-            }
+            Step::End => return println!(rt; "rows: {rows}; every block is right"),
+            Step::Refused(refusal) => return say_refusal(rt, refusal),
         }
-        left -= 1;
     }
-    say_refusal(Refusal::of(Refusal::WRONG_SHAPE));
+    say_refusal(rt, Refusal::of(Refusal::WRONG_SHAPE))
+}
+
+// Reads until the space is full, the file ends or a read fails: how many bytes stand there then.
+fn read_full(file: &mut impl Read, space: &mut [u8]) -> usize
+    ensures { result ≤ length space.new }
+{
+    let mut n = 0;
+    while n < space.len() {
+        match file.read(&mut space[n..]) {
+            Ok(0) => break,
+            Ok(more) => n += more,
+            Err(_) => break,
+        }
+    }
+    n
 }
 
 // Whether nothing is left to be read: a read that fails leaves something, as at a bad place of the stick.
-fn is_at_end(fd: i32) -> bool {
+fn is_at_end(file: &mut impl Read) -> bool {
     let mut more = [0u8; 1];
-    libc::read(fd, &mut more) == 0
+    match file.read(&mut more) {
+        Ok(n) => n == 0,
+        Err(_) => false,
+    }
 }
 
-fn say_read(space: &[u8], n: usize, is_whole: bool) {
+fn say_read(rt: &impl Print, space: &[u8], n: usize, is_whole: bool) -> io::Result<()> {
     if space.len() <= n {
-        text(b"it is longer than 6710784 bytes: no store's snapshot is\n");
-        return;
+        return println!(rt; "it is longer than 6710784 bytes: no store's snapshot is");
     }
     if !is_whole {
-        text(b"it could not be read to its end\n");
-        return;
+        return println!(rt; "it could not be read to its end");
     }
-    say_rows(&space[0..n]);
+    say_rows(rt, &space[0..n])
+}
+
+fn say_opened(rt: &(impl Print + AllocGlobal), file: &mut impl Read) -> io::Result<()> {
+    let mut space = space(rt.alloc())?;
+    let n = read_full(file, &mut space);
+    let is_whole = is_at_end(file);
+    say_read(rt, &space, n, is_whole)
+}
+
+// A path of std is UTF-8: a file of any other name cannot be read.
+fn open<R: Files>(rt: &R, name: &[u8]) -> io::Result<R::File> {
+    match str::from_utf8(name) {
+        Ok(path) => File::open(rt, path),
+        Err(_) => Err(io::Error::new(ErrorKind::InvalidFilename, "its name is no UTF-8")),
+    }
+}
+
+// A line of standard error: a file's name, and why it cannot be opened, as C says it, without C's number.
+fn say_error(rt: &(impl Eprint + AllocGlobal), name: &[u8], error: io::Error) -> io::Result<()> {
+    let name = String::from_utf8_lossy(rt.alloc(), name)?;
+    let error = format!(in rt.alloc(); "{error}")?;
+    match error.as_str().split_once(" (os error ") {
+        Some((words, _)) => eprintln!(rt; "{name}: {words}"),
+        None => eprintln!(rt; "{name}: {error}"),
+    }
 }
 
 // Where a file cannot be opened, standard error says why.
-fn say_file(name: &[u8]) {
-    text(name);
-    text(b":\n");
-    let fd = os::open_read(name);
-    if fd < 0 {
-        os::fail(name);
-        text(b"it cannot be read\n");
-        return;
+fn say_file<R: Files + Print + Eprint + AllocGlobal>(rt: &R, name: &[u8]) -> io::Result<()> {
+    rt.write_all(name)?;
+    println!(rt; ":")?;
+    match open(rt, name) {
+        Ok(mut file) => say_opened(rt, &mut file),
+        Err(error) => {
+            say_error(rt, name, error)?;
+            println!(rt; "it cannot be read")
+        }
     }
-    let mut space = space();
-    let n = io::read_full(fd, &mut space);
-    let is_whole = is_at_end(fd);
-    libc::close(fd);
-    say_read(&space, n, is_whole);
 }
 
-fn say_argument(i: usize) {
+// How many words the program was started with, its own name among them.
+fn arg_count(env: &impl Env) -> usize {
+    let mut start = [0u8; 1];
+    for i in 0..usize::MAX {
+        if let Err(FillError::NotPresent) = env.arg(i, &mut start) {
+            return i;
+        }
+    }
+    usize::MAX
+}
+
+// A word that is longer than a name can be stands for the empty name.
+fn say_argument<R: Files + Env + Print + Eprint + AllocGlobal>(rt: &R, i: usize) -> io::Result<()> {
     let mut name = [0u8; PATH_MAX];
-    let n = os::arg(i, &mut name);
-    say_file(&name[0..n]);
+    let n = rt.arg(i, &mut name).unwrap_or(0);
+    say_file(rt, &name[0..n])
 }
 
-fn main() {
-    let count = os::arg_count();
+fn main(rt: HostRuntime) -> io::Result<()> {
+    let count = arg_count(&rt);
     if count < 2 {
-        text(
-            b"stick FILE ..: the rows of snapshot files, a line each: id collection slab slot key\n",
-        );
+        println!(rt;
+            "stick FILE ..: the rows of snapshot files, a line each: id collection slab slot key"
+        )?;
     }
-    let mut i = 1;
-    while i < count {
-        say_argument(i);
-        i += 1;
+    for i in 1..count {
+        say_argument(&rt, i)?;
     }
+    Ok(())
 }

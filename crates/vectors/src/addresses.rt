@@ -2,116 +2,116 @@
 use crate::say;
 use address::{Made, Packed, SlabAddress, Unpacked};
 use sizes::Class;
+use std::io;
 
 // Each entry of the constant table; what is worked out where a size is hot, in place of reading the table, is that entry.
-fn size(slab: usize, entry: u64) {
-    say::text(b"size");
-    say::number(slab as u64);
-    say::number(entry);
+fn size(rt: &impl Print, slab: usize, entry: u64) -> io::Result<()> {
+    say::text(rt, "size")?;
+    say::number(rt, slab as u64)?;
+    say::number(rt, entry)?;
     if sizes::slab_size(slab) == entry {
-        say::text(b" worked out");
+        say::text(rt, " worked out")?;
     }
     if sizes::is_slab_size(entry) {
-        say::text(b" a slot's length");
+        say::text(rt, " a slot's length")?;
     }
-    say::end();
+    say::end(rt)
 }
 
-fn sizes_of_slabs() {
+fn sizes_of_slabs(rt: &impl Print) -> io::Result<()> {
     let table = sizes::slab_sizes();
-    let mut slab: usize = 0;
-    while slab < SlabAddress::SLABS {
-        size(slab, table[slab]);
-        slab += 1;
+    for slab in 0..SlabAddress::SLABS {
+        size(rt, slab, table[slab])?;
     }
+    Ok(())
 }
 
-fn class(n: u64) {
-    say::text(b"class");
-    say::number(n);
+fn class(rt: &impl Print, n: u64) -> io::Result<()> {
+    say::text(rt, "class")?;
+    say::number(rt, n)?;
     match sizes::slab_for_size(n) {
-        Class::Slab(slab) => say::number(slab as u64),
-        Class::Refused(r) => say::refusal(r),
-    }
-    say::end();
+        Class::Slab(slab) => say::number(rt, slab as u64),
+        Class::Refused(r) => say::refusal(rt, r),
+    }?;
+    say::end(rt)
 }
 
-fn made(slab: usize, slot: usize) {
-    say::text(b"address");
-    say::number(slab as u64);
-    say::number(slot as u64);
+fn made(rt: &impl Print, slab: usize, slot: usize) -> io::Result<()> {
+    say::text(rt, "address")?;
+    say::number(rt, slab as u64)?;
+    say::number(rt, slot as u64)?;
     match SlabAddress::from_slab_slot(slab, slot) {
-        Made::At(_) => say::text(b" made"),
-        Made::Refused(r) => say::refusal(r),
-    }
-    say::end();
+        Made::At(_) => say::text(rt, " made"),
+        Made::Refused(r) => say::refusal(rt, r),
+    }?;
+    say::end(rt)
 }
 
-fn packed(slots: usize, slab: usize, slot: usize) {
-    say::text(b"pack");
-    say::number(slots as u64);
-    say::number(slab as u64);
-    say::number(slot as u64);
+fn packed(rt: &impl Print, slots: usize, slab: usize, slot: usize) -> io::Result<()> {
+    say::text(rt, "pack")?;
+    say::number(rt, slots as u64)?;
+    say::number(rt, slab as u64)?;
+    say::number(rt, slot as u64)?;
     let a = SlabAddress { slab, slot };
     match a.pack(slots) {
-        Packed::Location(location) => say::number(location),
-        Packed::Refused(r) => say::refusal(r),
-    }
-    say::end();
+        Packed::Location(location) => say::number(rt, location),
+        Packed::Refused(r) => say::refusal(rt, r),
+    }?;
+    say::end(rt)
 }
 
-fn unpacked(slots: usize, location: u64) {
-    say::text(b"unpack");
-    say::number(slots as u64);
-    say::number(location);
+fn unpacked(rt: &impl Print, slots: usize, location: u64) -> io::Result<()> {
+    say::text(rt, "unpack")?;
+    say::number(rt, slots as u64)?;
+    say::number(rt, location)?;
     match SlabAddress::unpack(slots, location) {
         Unpacked::At(a) => {
-            say::number(a.slab as u64);
-            say::number(a.slot as u64);
+            say::number(rt, a.slab as u64)?;
+            say::number(rt, a.slot as u64)
         }
-        Unpacked::NoObject => say::text(b" none"),
-        Unpacked::Refused(r) => say::refusal(r),
-    }
-    say::end();
+        Unpacked::NoObject => say::text(rt, " none"),
+        Unpacked::Refused(r) => say::refusal(rt, r),
+    }?;
+    say::end(rt)
 }
 
-pub fn run() {
-    sizes_of_slabs();
-    class(0);
-    class(59);
-    class(60);
-    class(250);
-    class(251);
-    class(65528);
-    class(65529);
-    class(4294967284);
-    class(4294967285);
-    class(17179869172);
-    class(17179869173);
-    class(18446744073709551604);
-    class(18446744073709551615);
-    made(0, 0);
-    made(77, 65535);
-    made(78, 0);
-    made(0, 65536);
-    made(18446744073709551615, 18446744073709551615);
-    packed(65536, 0, 0);
-    packed(65536, 77, 5);
-    packed(8, 77, 7);
-    packed(8, 77, 8);
-    packed(8, 78, 0);
-    packed(0, 0, 0);
-    packed(65537, 0, 0);
-    packed(1, 18446744073709551615, 18446744073709551615);
-    unpacked(65536, 0);
-    unpacked(0, 0);
-    unpacked(65537, 72057594037927936);
-    unpacked(65536, 72057594037927936);
-    unpacked(65536, 5620492334958379013);
-    unpacked(5, 5620492334958379013);
-    unpacked(6, 5620492334958379013);
-    unpacked(65536, 1);
-    unpacked(65536, 72057594037927935);
-    unpacked(65536, 5692549928996306944);
-    unpacked(65536, 18446744073709551615);
+pub fn run(rt: &impl Print) -> io::Result<()> {
+    sizes_of_slabs(rt)?;
+    class(rt, 0)?;
+    class(rt, 59)?;
+    class(rt, 60)?;
+    class(rt, 250)?;
+    class(rt, 251)?;
+    class(rt, 65528)?;
+    class(rt, 65529)?;
+    class(rt, 4294967284)?;
+    class(rt, 4294967285)?;
+    class(rt, 17179869172)?;
+    class(rt, 17179869173)?;
+    class(rt, 18446744073709551604)?;
+    class(rt, 18446744073709551615)?;
+    made(rt, 0, 0)?;
+    made(rt, 77, 65535)?;
+    made(rt, 78, 0)?;
+    made(rt, 0, 65536)?;
+    made(rt, 18446744073709551615, 18446744073709551615)?;
+    packed(rt, 65536, 0, 0)?;
+    packed(rt, 65536, 77, 5)?;
+    packed(rt, 8, 77, 7)?;
+    packed(rt, 8, 77, 8)?;
+    packed(rt, 8, 78, 0)?;
+    packed(rt, 0, 0, 0)?;
+    packed(rt, 65537, 0, 0)?;
+    packed(rt, 1, 18446744073709551615, 18446744073709551615)?;
+    unpacked(rt, 65536, 0)?;
+    unpacked(rt, 0, 0)?;
+    unpacked(rt, 65537, 72057594037927936)?;
+    unpacked(rt, 65536, 72057594037927936)?;
+    unpacked(rt, 65536, 5620492334958379013)?;
+    unpacked(rt, 5, 5620492334958379013)?;
+    unpacked(rt, 6, 5620492334958379013)?;
+    unpacked(rt, 65536, 1)?;
+    unpacked(rt, 65536, 72057594037927935)?;
+    unpacked(rt, 65536, 5692549928996306944)?;
+    unpacked(rt, 65536, 18446744073709551615)
 }

@@ -1,6 +1,7 @@
 // Published check values and document 01's worked frames, run. Each line says what was asked and what came back; the file stdout
 // beside src/ has what the publications and document 01 say.
 #![tactic(auto)]
+
 mod addresses;
 mod checks;
 mod cookies;
@@ -8,9 +9,11 @@ mod frames;
 mod say;
 mod space;
 
-fn main() {
-    checks::run();
-    frames::run();
-    cookies::run();
-    addresses::run();
+use std::io;
+
+fn main(rt: HostRuntime) -> io::Result<()> {
+    checks::run(&rt)?;
+    frames::run(&rt)?;
+    cookies::run(&rt)?;
+    addresses::run(&rt)
 }

@@ -1,41 +1,35 @@
 // One line for each answer.
-use libc::STDOUT_FILENO;
 use refusal::Refusal;
+use std::io;
 
-pub fn text(words: &[u8]) {
-    io::write_all(STDOUT_FILENO, words);
+pub fn text(rt: &impl Print, words: &str) -> io::Result<()> {
+    rt.print(words)
 }
 
-pub fn number(n: u64) {
-    text(b" ");
-    io::print_decimal(STDOUT_FILENO, n);
+pub fn number(rt: &impl Print, n: u64) -> io::Result<()> {
+    print!(rt; " {n}")
 }
 
-pub fn hex(n: u64, width: usize) {
-    text(b" ");
-    io::print_hex(STDOUT_FILENO, n, width);
+// A check, in eight digits.
+pub fn hex(rt: &impl Print, n: u32) -> io::Result<()> {
+    print!(rt; " {n:08x}")
 }
 
-pub fn refusal(r: Refusal) {
-    text(b" refused");
-    number(r.number as u64);
-    number(r.index as u64);
+pub fn refusal(rt: &impl Print, r: Refusal) -> io::Result<()> {
+    text(rt, " refused")?;
+    number(rt, r.number as u64)?;
+    number(rt, r.index as u64)
 }
 
-pub fn end() {
-    text(b"\n");
-}
-
-fn byte(b: u8) {
-    io::print_hex(STDOUT_FILENO, b as u64, 2);
+pub fn end(rt: &impl Print) -> io::Result<()> {
+    println!(rt)
 }
 
 // The bytes, two digits each.
-pub fn bytes(s: &[u8]) {
-    text(b" ");
-    let mut i = 0;
-    while i < s.len() {
-        byte(s[i]);
-        i += 1;
+pub fn bytes(rt: &impl Print, s: &[u8]) -> io::Result<()> {
+    text(rt, " ")?;
+    for byte in s {
+        print!(rt; "{byte:02x}")?;
     }
+    Ok(())
 }

@@ -1,49 +1,38 @@
 // Document 01, "Run whole": eight objects of three bytes stored in order, five freed and released, and what is to be moved then.
 #![tactic(auto)]
+
 use address::{SlabAddress, Unpacked};
 use carried::WIDTH;
 use defrag::Defrag;
-use libc::STDOUT_FILENO;
+use std::io;
 use tables::{BATCH_WORDS, Capacities, MOST_UPDATES, TALLY_WORDS};
 
-fn text(words: &[u8]) {
-    io::write_all(STDOUT_FILENO, words);
-}
-
-fn number(n: u64) {
-    io::print_decimal(STDOUT_FILENO, n);
-}
-
 // One row: slab, slot and id.
-fn say_move(id: u64, location: u64) {
+fn say_move(rt: &impl Print, id: u64, location: u64) -> io::Result<()> {
     let Unpacked::At(address) = SlabAddress::unpack(8, location) else {
-        return;
+        return Ok(());
     };
-    number(address.slab as u64);
-    text(b" ");
-    number(address.slot as u64);
-    text(b" ");
-    number(id);
-    text(b"\n");
+    let slab = address.slab;
+    let slot = address.slot;
+    println!(rt; "{slab} {slot} {id}")
 }
 
-fn say_moves(ids: &[u64], locations: &[u64], count: usize) {
-    text(b"slab slot id\n");
-    let mut i = 0;
-    while i < count {
+fn say_moves(rt: &impl Print, ids: &[u64], locations: &[u64], count: usize) -> io::Result<()> {
+    println!(rt; "slab slot id")?;
+    for i in 0..count {
         if i < ids.len() {
             if i < locations.len() {
-                say_move(ids[i], locations[i]);
+                say_move(rt, ids[i], locations[i])?;
             }
         }
-        i += 1;
     }
+    Ok(())
 }
 
-fn say_defrag(d: Defrag, ids: &[u64], locations: &[u64]) {
+fn say_defrag(rt: &impl Print, d: Defrag, ids: &[u64], locations: &[u64]) -> io::Result<()> {
     match d {
-        Defrag::Rows(count) => say_moves(ids, locations, count),
-        Defrag::Refused(_) => text(b"refused\n"),
+        Defrag::Rows(count) => say_moves(rt, ids, locations, count),
+        Defrag::Refused(_) => println!(rt; "refused"),
     }
 }
 
@@ -109,6 +98,7 @@ fn batch_of(
 }
 
 fn list(
+    rt: &impl Print,
     locations: &[u64],
     slot_marks: &[u8],
     owners: &[u64],
@@ -116,7 +106,7 @@ fn list(
     tallies: &[u64],
     moved_ids: &mut [u64],
     moved_locations: &mut [u64],
-) {
+) -> io::Result<()> {
     let answer = defrag::objects_to_defrag(
         caps(),
         locations,
@@ -128,10 +118,10 @@ fn list(
         moved_ids,
         moved_locations,
     );
-    say_defrag(answer, moved_ids, moved_locations);
+    say_defrag(rt, answer, moved_ids, moved_locations)
 }
 
-fn main() {
+fn main(rt: HostRuntime) -> io::Result<()> {
     let mut id_marks = [0u8; 9];
     let mut locations = [0u64; 9];
     let mut slot_marks = [0u8; SlabAddress::SLABS * 8];
@@ -180,6 +170,7 @@ fn main() {
     );
     release::release(caps(), &mut id_marks, &mut slot_marks, &batch, &mut tallies);
     list(
+        &rt,
         &locations,
         &slot_marks,
         &owners,
@@ -187,5 +178,5 @@ fn main() {
         &tallies,
         &mut [0; 8],
         &mut [0; 8],
-    );
+    )
 }

@@ -4,7 +4,8 @@ use crate::numbers::Number;
 use crate::{numbers, sentences, space, words};
 use reason::Reason;
 use refusal::Finished;
-use std::num::wrapping_add_usize;
+use std::env::Env;
+use std::io;
 use tables::{BATCH_WORDS, Capacities, TALLY_WORDS};
 
 fn caps() -> Capacities {
@@ -17,19 +18,25 @@ fn caps() -> Capacities {
 // ---- the questions: the words behind the ratio, or each row where there are none
 
 // How many there are; a store that is refused is asked nothing.
-fn questions(first: usize, end: usize, rows: usize, rebuilt: Finished) -> usize {
+fn questions(
+    rt: &impl Print,
+    first: usize,
+    end: usize,
+    rows: usize,
+    rebuilt: Finished,
+) -> io::Result<usize> {
     match rebuilt {
-        Finished::Done => if first < end { end - first } else { rows },
+        Finished::Done => Ok(if first < end { end - first } else { rows }),
         Finished::Refused(refusal) => {
-            sentences::say_row(refusal);
-            0
+            sentences::say_row(rt, refusal)?;
+            Ok(0)
         }
     }
 }
 
-fn asked_at(first: usize, end: usize, ids: &[u64], at: usize) -> Number {
+fn asked_at(env: &impl Env, first: usize, end: usize, ids: &[u64], at: usize) -> Number {
     if first < end {
-        numbers::id_at(wrapping_add_usize(first, at))
+        numbers::id_at(env, first.wrapping_add(at))
     } else if at < ids.len() {
         Number {
             is_one: true,
@@ -40,31 +47,39 @@ fn asked_at(first: usize, end: usize, ids: &[u64], at: usize) -> Number {
     }
 }
 
-fn say(ratio: usize, first: usize, at: usize, asked: Number, reason: Reason) {
+fn say(
+    rt: &(impl Env + Print),
+    ratio: usize,
+    first: usize,
+    at: usize,
+    asked: Number,
+    reason: Reason,
+) -> io::Result<()> {
     if asked.is_one {
-        sentences::say_reason(asked.n, ratio, reason);
+        sentences::say_reason(rt, asked.n, ratio, reason)
     } else {
-        words::say(wrapping_add_usize(first, at), 0, b": no id such as id=8\n");
+        words::say(rt, first.wrapping_add(at), 0, ": no id such as id=8\n")
     }
 }
 
 // ---- the answers
 
 pub fn answer(
+    rt: &(impl Env + Print + AllocGlobal),
     ratio: usize,
     end: usize,
     r: f32,
     ids: &[u64],
     row_locations: &[u64],
     row_carried: &[u8],
-) {
-    let mut id_marks = space::id_marks();
-    let mut locations = space::locations();
-    let mut slot_marks = space::slot_marks();
-    let mut owners = space::owners();
+) -> io::Result<()> {
+    let mut id_marks = space::id_marks(rt.alloc())?;
+    let mut locations = space::locations(rt.alloc())?;
+    let mut slot_marks = space::slot_marks(rt.alloc())?;
+    let mut owners = space::owners(rt.alloc())?;
     let mut batch = [0u64; BATCH_WORDS];
     let mut tallies = [0u64; TALLY_WORDS];
-    let mut carried = space::carried();
+    let mut carried = space::carried(rt.alloc())?;
     let rebuilt = rebuild::rebuild(
         caps(),
         &mut id_marks,
@@ -78,11 +93,10 @@ pub fn answer(
         row_locations,
         row_carried,
     );
-    let first = wrapping_add_usize(ratio, 1);
-    let questions = questions(first, end, ids.len(), rebuilt);
-    let mut at = 0;
-    while at < questions {
-        let asked = asked_at(first, end, ids, at);
+    let first = ratio.wrapping_add(1);
+    let questions = questions(rt, first, end, ids.len(), rebuilt)?;
+    for at in 0..questions {
+        let asked = asked_at(rt, first, end, ids, at);
         let reason = reason::reason_for_object(
             caps(),
             &id_marks,
@@ -94,7 +108,7 @@ pub fn answer(
             asked.n,
             r,
         );
-        say(ratio, first, at, asked, reason);
-        at += 1;
+        say(rt, ratio, first, at, asked, reason)?;
     }
+    Ok(())
 }

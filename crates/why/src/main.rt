@@ -6,6 +6,7 @@
 //
 // A FILE begins a group: its ratio, and ids, up to the next FILE. A snapshot has the slots that its rows hold, and nothing that is pending.
 #![tactic(auto)]
+
 mod answers;
 mod files;
 mod numbers;
@@ -14,35 +15,46 @@ mod space;
 mod words;
 
 use numbers::Ratio;
-use sentences::text;
+use std::env::Env;
+use std::io;
+use std::rt::Files;
 
 // A group, its words by their places: the file, the word behind it, and the next file or the end.
-fn say_group(file: usize, ratio: usize, end: usize) {
-    words::say(file, 0, b":\n");
-    match numbers::ratio_at(ratio) {
-        Ratio::Is(r) => files::answer(file, ratio, end, r),
-        Ratio::Missing => text(b"no ratio is given: it stands behind the file, as ratio=0.75\n"),
-        Ratio::NoDecimal => words::say(ratio, 0, b": no decimal such as 0.75\n"),
+fn say_group<R: Files + Env + Print + Eprint + AllocGlobal>(
+    rt: &R,
+    file: usize,
+    ratio: usize,
+    end: usize,
+) -> io::Result<()> {
+    words::say(rt, file, 0, ":\n")?;
+    match numbers::ratio_at(rt, ratio) {
+        Ratio::Is(r) => files::answer(rt, file, ratio, end, r),
+        Ratio::Missing => println!(rt;
+            "no ratio is given: it stands behind the file, as ratio=0.75"
+        ),
+        Ratio::NoDecimal => words::say(rt, ratio, 0, ": no decimal such as 0.75\n"),
         Ratio::OutOfRange => words::say(
+            rt,
             ratio,
             words::RATIO_BYTES,
-            b" is no fill ratio: it is above 0 and at most 1\n",
+            " is no fill ratio: it is above 0 and at most 1\n",
         ),
     }
 }
 
-fn main() {
-    let count = os::arg_count();
-    let mut i = words::next_file(1, count);
+fn main(rt: HostRuntime) -> io::Result<()> {
+    let count = words::count(&rt);
+    let mut i = words::next_file(&rt, 1, count);
     if i != 1 || count < 2 {
-        text(
-            b"why FILE ratio=0.75 [id=8 ..] ..: why objects of snapshot files are to be moved, or are not; without an id, each row's\n",
-        );
+        println!(rt;
+            "why FILE ratio=0.75 [id=8 ..] ..: why objects of snapshot files are to be moved, or are not; without an id, each row's"
+        )?;
     }
     while i < count {
         let behind = i + 1;
-        let end = words::next_file(behind, count);
-        say_group(i, behind, end);
+        let end = words::next_file(&rt, behind, count);
+        say_group(&rt, i, behind, end)?;
         i = end;
     }
+    Ok(())
 }

@@ -1,8 +1,8 @@
 // Ids and ratios, as they are typed.
-ghost use Rattle.std.specs.Prelude.{◌≤◌, length};
+ghost use Rattle.std.specs.Prelude.{◌≡◌, ◌≢◌, ◌<◌, ◌≤◌, length, take, slice_index, All};
 
 use crate::words;
-use libc::PATH_MAX;
+use std::env::Env;
 
 const MOST: u64 = 18446744073709551615;
 
@@ -53,14 +53,12 @@ fn with_digits(from: u64, word: &[u8], at: usize, end: usize) -> Number
     requires { end ≤ length word.now }
 {
     let mut n = from;
-    let mut i = at;
-    while i < end {
+    for i in at..end {
         let more = appended(n, word[i]);
         if !more.is_one {
             return more;
         }
         n = more.n;
-        i += 1;
     }
     Number { is_one: true, n }
 }
@@ -109,10 +107,21 @@ fn places_of(point: usize, end: usize) -> usize
     if point < end { end - point - 1 } else { 0 }
 }
 
+// The first place of a point, or the end where there is none.
+fn point_of(word: &[u8]) -> usize
+    ensures bound { result ≤ length word.now }
+    ensures before { All (λ byte. byte ≢ 46) (take result word.now) }
+    ensures found { result < length word.now → slice_index word.now result ≡ 46 }
+{
+    word.iter()
+        .position(|byte| *byte == b'.')
+        .unwrap_or(word.len())
+}
+
 // Digits, of which up to seven may stand behind a point: 0.75, 1, .5.
 fn decimal(word: &[u8]) -> Ratio {
     let end = word.len();
-    let point = bytes::scan::find(word, 0, end, b'.');
+    let point = point_of(word);
     let places = places_of(point, end);
     if point == 0 && places == 0 {
         return Ratio::NoDecimal;
@@ -126,9 +135,9 @@ fn decimal(word: &[u8]) -> Ratio {
 }
 
 // What word i says.
-pub fn ratio_at(i: usize) -> Ratio {
-    let mut word = [0u8; PATH_MAX];
-    let n = os::arg(i, &mut word);
+pub fn ratio_at(env: &impl Env, i: usize) -> Ratio {
+    let mut word = [0u8; words::PATH_MAX];
+    let n = words::read(env, i, &mut word);
     if n < words::RATIO_BYTES {
         return Ratio::Missing;
     }
@@ -138,9 +147,9 @@ pub fn ratio_at(i: usize) -> Ratio {
     decimal(&word[words::RATIO_BYTES..n])
 }
 
-pub fn id_at(i: usize) -> Number {
-    let mut word = [0u8; PATH_MAX];
-    let n = os::arg(i, &mut word);
+pub fn id_at(env: &impl Env, i: usize) -> Number {
+    let mut word = [0u8; words::PATH_MAX];
+    let n = words::read(env, i, &mut word);
     if n <= words::ID_BYTES {
         return none();
     }

@@ -1,8 +1,9 @@
-// What stands on the stack, which has 8 MiB by Linux's default: a file of 1,677,825 bytes, the lists of its rows, 1,597,440, and the tables of its store,
-// 4,361,936. Compiled without optimising, as `rt try` does too, the program lays some of it there more than once and wants `ulimit -s 65536`.
+// The long arrays: a file of 1,677,825 bytes, the lists of its rows, 1,597,440, and the tables of its store, 4,361,936.
 //
-// Each long array is made by a function of its own, and its contract says the length and no more, so that no caller's proof has to look at so many zeros.
-ghost use Rattle.std.specs.Prelude.{◌≡◌, length};
+// Each is made by a function of its own, and its contract says the length and no more, so that no caller's proof has to look at so many zeros.
+ghost use Rattle.std.specs.Prelude.{◌≡◌, length, IfOk};
+
+use std::alloc::{AllocError, Global};
 
 pub const IDS: usize = 16384;
 
@@ -20,44 +21,56 @@ const CARRIED: usize = 1331200;
 // One byte more than 3,277 blocks, the snapshot of 16,383 rows: a file that fills it is too long.
 pub const LONGEST: usize = 1677825;
 
-pub fn file() -> [u8; LONGEST]
-    ensures { 1677825 ≡ length result }
+fn bytes(alloc: Global, n: usize) -> Result<Vec<u8>, AllocError>
+    ensures { IfOk result (λ bytes. n ≡ length bytes.items) }
 {
-    [0; LONGEST]
+    vec![in alloc; 0; n]
 }
 
-pub fn rows() -> [u64; ROWS]
-    ensures { 16640 ≡ length result }
+fn words(alloc: Global, n: usize) -> Result<Vec<u64>, AllocError>
+    ensures { IfOk result (λ words. n ≡ length words.items) }
 {
-    [0; ROWS]
+    vec![in alloc; 0; n]
 }
 
-pub fn carried() -> [u8; CARRIED]
-    ensures { 1331200 ≡ length result }
+pub fn file(alloc: Global) -> Result<Vec<u8>, AllocError>
+    ensures { IfOk result (λ bytes. 1677825 ≡ length bytes.items) }
 {
-    [0; CARRIED]
+    bytes(alloc, LONGEST)
 }
 
-pub fn id_marks() -> [u8; IDS]
-    ensures { 16384 ≡ length result }
+pub fn rows(alloc: Global) -> Result<Vec<u64>, AllocError>
+    ensures { IfOk result (λ rows. 16640 ≡ length rows.items) }
 {
-    [0; IDS]
+    words(alloc, ROWS)
 }
 
-pub fn locations() -> [u64; IDS]
-    ensures { 16384 ≡ length result }
+pub fn carried(alloc: Global) -> Result<Vec<u8>, AllocError>
+    ensures { IfOk result (λ bytes. 1331200 ≡ length bytes.items) }
 {
-    [0; IDS]
+    bytes(alloc, CARRIED)
 }
 
-pub fn slot_marks() -> [u8; ALL_SLOTS]
-    ensures { 319488 ≡ length result }
+pub fn id_marks(alloc: Global) -> Result<Vec<u8>, AllocError>
+    ensures { IfOk result (λ marks. 16384 ≡ length marks.items) }
 {
-    [0; ALL_SLOTS]
+    bytes(alloc, IDS)
 }
 
-pub fn owners() -> [u64; ALL_SLOTS]
-    ensures { 319488 ≡ length result }
+pub fn locations(alloc: Global) -> Result<Vec<u64>, AllocError>
+    ensures { IfOk result (λ locations. 16384 ≡ length locations.items) }
 {
-    [0; ALL_SLOTS]
+    words(alloc, IDS)
+}
+
+pub fn slot_marks(alloc: Global) -> Result<Vec<u8>, AllocError>
+    ensures { IfOk result (λ marks. 319488 ≡ length marks.items) }
+{
+    bytes(alloc, ALL_SLOTS)
+}
+
+pub fn owners(alloc: Global) -> Result<Vec<u64>, AllocError>
+    ensures { IfOk result (λ owners. 319488 ≡ length owners.items) }
+{
+    words(alloc, ALL_SLOTS)
 }
