@@ -91,7 +91,7 @@ all_zero_turn l i w any r e =
 -- nothing is left
 pub all_zero_end : (l : List ℕ) (i any : ℕ) → length l ≤ i → (eqb any 0 && all_zero (drop i l)) ≡ eqb any 0
 unfolding all_zero
-all_zero_end l i any h = ap (λ (x : List ℕ). eqb any 0 && all_zero x) (drop_of_length-le l h) ∙ B.and_true (eqb any 0)
+all_zero_end l i any h = ap (λ (x : List ℕ). eqb any 0 && all_zero x) (drop_of_length-le l h) ∙ B.and-true (eqb any 0)
 
 -- ---- the last w bytes, whose bits are joined in r: what was looked at of them before may be looked at again
 again : (l : List ℕ) (k i : ℕ) (z : Bool) → k ≤ i → all_zero l ≡ (z && all_zero (drop i l)) → (z && all_zero (drop k l)) ≡ all_zero l

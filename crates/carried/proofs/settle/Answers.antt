@@ -23,4 +23,4 @@ returns c =
     let a = c.args in
     let t = a.column.now in
     c.put_row-2.ensures
-    ∙ ap (put_row width t a.id) (c.copy.ensures ∙ part_range width t a.kept ∙ sym (kept_row_stored width t a.kept a.location c.if1.false))
+    ∙ ap (put_row width t a.id) (c.copy.ensures ∙ part_range width t a.kept ∙ sym (kept_row_stored width t a.kept a.location c.if-location-eq0.false))

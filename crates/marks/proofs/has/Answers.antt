@@ -11,6 +11,7 @@ use Rattle.marks.proofs.LawsCount.{count_if_turn, count_if_end}
 use Rattle.marks.proofs.LawsCalm.{has_is, some_by}
 use borrow.Author.Rules.{rules}
 use Rattle.marks.proofs.has.Goals as goal
+use Rattle.marks.proofs.has.Goals.{then-marks-i, else-marks-i}
 
 pub loop-i-init : goal.loop-i-init
 loop-i-init c = (search rules, (λ h. omega arith), λ h. clash (sym h))
@@ -21,12 +22,18 @@ loop-i-preserved c =
     let i = c.loop-i.i in
     let t = count_if_turn (is_mark a.mark) a.marks.now i (omega arith) in (
       search rules,
-      (λ h. ⊎_elim (λ w. clash (sym w.1 ∙ h)) (λ w.
-          let u = ne_eqb _ a.mark w.0 in
-          omega (arith, rw u at t, c.loop-i.invariant.1 (sym w.1 ∙ h))) c.if-marks-i.either),
-      λ h. ⊎_elim (λ w.
-          let u = eq-eqb _ a.mark w.0 in
-          some_by c.loop-i.found _ _ c.loop-i.invariant.1 c.loop-i.invariant.2 (omega (arith, rw u at t))) (λ w. c.loop-i.invariant.2 (sym w.1 ∙ h)) c.if-marks-i.either,
+      (λ h. elim c.if-marks-i.branch [
+        | then-marks-i w ↦ clash (sym w.found-is ∙ h)
+        | else-marks-i w ↦
+            let u = ne_eqb _ a.mark w.if-marks-i.false in
+            omega (arith, rw u at t, c.loop-i.invariant.1 (sym w.found-is ∙ h))
+      ]),
+      λ h. elim c.if-marks-i.branch [
+        | then-marks-i w ↦
+            let u = eq-eqb _ a.mark w.if-marks-i.true in
+            some_by c.loop-i.found _ _ c.loop-i.invariant.1 c.loop-i.invariant.2 (omega (arith, rw u at t))
+        | else-marks-i w ↦ c.loop-i.invariant.2 (sym w.found-is ∙ h)
+      ],
     )
 
 pub returns : goal.returns

@@ -13,7 +13,7 @@ pub returns-then-list-ne-SLABS : goal.returns-then-list-ne-SLABS
 returns-then-list-ne-SLABS c = simp (ne_eqb _ _ c.if-list-ne-SLABS.true)
 
 pub loop-i-init : goal.loop-i-init
-loop-i-init c = (omega arith, c.slab_sizes-table.ensures.0, c.if-list-ne-SLABS.false, refl, refl)
+loop-i-init c = (omega arith, c.slab_sizes-table.ensures.table, c.if-list-ne-SLABS.false, refl, refl)
 
 pub bounds-table-i : goal.bounds-table-i
 bounds-table-i c = c.loop-i-test.true

@@ -6,4 +6,4 @@ use Rattle.sizes.proofs.slab_sizes.Goals as goal
 
 pub returns : goal.returns
 unfolding slab_sizes
-returns c = (refl, (slab_sizes_ascend, slab_sizes_class))
+returns c = record { table = refl; order = slab_sizes_ascend; classes = slab_sizes_class }
