@@ -5,6 +5,7 @@
 // x^515 + x^234 + x^230 + x^171 + 1 is a multiple of the polynomial, and so is the same with each power eight times as high. So a byte may
 // be taken away at a place and put back 281, 285, 344 and 515 bytes on; what is put back stands in the last 515 bytes that were made.
 #![tactic(auto)]
+
 ghost use Rattle.std.specs.Prelude.{◌≡◌, ℕ, ◌+◌, ◌<◌, ◌≤◌, ◌^◌, length, get_or, take, drop};
 ghost use Rattle.crc_steps.specs.Crc32.{crc_over};
 ghost use Rattle.crc_words.specs.Fold.{left};

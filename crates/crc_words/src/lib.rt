@@ -5,6 +5,7 @@
 // A word that was read is not divided: it is put off, to words that are still to come. Five words are pending at most. Where many words come
 // they are put off far, by few shifts; near the end by more, and less far; the last is divided.
 #![tactic(auto)]
+
 ghost use Rattle.std.specs.Prelude.{◌≡◌, ℕ, ◌+◌, ◌-◌, ◌*◌, ◌/◌, ◌%◌, ◌<◌, ◌≤◌, ◌^◌, length, drop};
 ghost use Rattle.std.specs.Int.Bits.{bit_xor};
 ghost use Rattle.little_endian.specs.LittleEndian.{word};

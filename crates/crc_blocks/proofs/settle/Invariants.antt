@@ -1,0 +1,11 @@
+use mathlib.Core.Path.{◌≡◌}
+use Prim.Native.Nat.{ℕ, ◌+◌, ◌-◌, ◌≤◌, ◌<◌}
+use lib.ListN.{length, get_or}
+use Rattle.crc_blocks.proofs.Pending.{made}
+use Rattle.crc_blocks.proofs.settle.Given as goal
+
+abbrev pub invariant-loop-j : goal.invariant-loop-j
+invariant-loop-j l = (l.j ≤ 515) × ((length l.t ≡ 1030) × (((k : ℕ) → k < l.j → get_or l.t k 0 ≡ made l.initial.t k (get_or l.s (l.i + k) 0)) × ((k : ℕ) → l.j ≤ k → get_or l.t k 0 ≡ get_or l.initial.t k 0)))
+
+abbrev pub decreases-loop-j : goal.decreases-loop-j
+decreases-loop-j l = 515 - l.j

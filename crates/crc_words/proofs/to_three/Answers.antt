@@ -1,0 +1,20 @@
+-- `crc_words::to_three` meets its contract: the word before the last 24 bytes is put off at k = 180, or the last 24 are all.
+-- Assumes nothing.
+use mathlib.Core.Path.{◌∙◌}
+use Prim.Native.Nat.{◌-◌, ◌%◌}
+use native.Mathlib.Omega.{arith}
+use lib.ListN.{length}
+use Rattle.crc_steps.specs.Crc32.{crc_over}
+use Rattle.crc_words.specs.Fold.{held}
+use Rattle.crc_words.proofs.Left.{left_at, onward}
+use Rattle.crc_words.proofs.to_three.Goals as goal
+
+pub returns-then-s-lt32 : goal.returns-then-s-lt32
+returns-then-s-lt32 c =
+    let a = c.args in
+    left_at a.s.now (held a.z) (length a.s.now - 24) (length a.s.now % 8) (omega arith) ∙ c.requires.1
+
+pub returns : goal.returns
+returns c =
+    let a = c.args in
+    onward a.s.now 24 180 c.load.result (held c.to_four.result) (held c.with_three.result) (crc_over a.register a.s.now) c.with_three.ensures (omega arith) (omega arith) (omega arith) c.load.ensures c.to_four.ensures
