@@ -8,6 +8,7 @@
 //         Unpacked::Refused(refusal) => ..,  // 1, a capacity out of range; 3, no such slab or slot
 //     }
 #![tactic(auto)]
+
 ghost use Rattle.std.specs.Prelude.{◌≡◌};
 ghost use Rattle.address.specs.Address.{bad_slots, made_of, packed, unpacked};
 

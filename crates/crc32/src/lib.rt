@@ -13,6 +13,7 @@
 //   crc_blocks  from there on: a multiple whose places are whole bytes, so that LLVM moves sixteen at once.
 // What the standard says, a bit at a time, is in crc_steps, and every function is proved equal to it.
 #![tactic(auto)]
+
 ghost use Rattle.std.specs.Prelude.{◌≡◌};
 ghost use Rattle.std.specs.Int.Bits.{bit_xor};
 ghost use Rattle.crc_steps.specs.Crc32.{crc_over, crc32};

@@ -7,6 +7,7 @@
 //         Cutoff::Refused(refusal) => ..,  // 1, these are no counts of a slab; 14, this is no fill ratio
 //     }
 #![tactic(auto)]
+
 ghost use Rattle.std.specs.Prelude.{◌≡◌, not, min};
 ghost use Rattle.std.specs.Float.Ieee as Ieee;
 ghost use Rattle.address.specs.Address.{most_slots};

@@ -13,6 +13,7 @@
 // `Slab::read(slot)` hands back that part of the slot at once, and the empty part where the verdict refuses. The slot's
 // length says its slab, and with it the width of the length field: one body serves the widths 1, 2, 4 and 8.
 #![tactic(auto)]
+
 ghost use Rattle.std.specs.Prelude.{true, ◌≡◌, ◌≤◌, length};
 ghost use Rattle.sizes.specs.Sizes.{is_slab_size, longest_object};
 ghost use Rattle.frame.specs.Frame.{Writing, writing, framed, verdict_of, object_part};

@@ -10,6 +10,7 @@
 // says how every list of marks counts under every hint. What is said of marks without a hint is in `marks`, `marks_search` and
 // `marks_pending`.
 #![tactic(auto)]
+
 ghost use Rattle.std.specs.Prelude.{◌≡◌, map, min, max, get_or, set};
 ghost use Rattle.marks.specs.Marks.{is_pending, is_held, is_taken, smallest_free, count_if, last_taken, tip, hold, let_go};
 ghost use Rattle.id_allocator.specs.Counted.{hinted, counted, settle};

@@ -9,6 +9,7 @@
 //
 // Every function takes any lengths: where there are not as many rows as there have to be, none is too long and none is kept.
 #![tactic(auto)]
+
 ghost use Rattle.std.specs.Prelude.{◌≡◌, true, cond, ◌&&◌, ◌*◌, eqb, length, replicate};
 ghost use Rattle.carried.specs.Carried.{width, put_row, put_rows, up_from};
 ghost use Rattle.keys.specs.Keys.{key_is_long, kept_length, normal, normal_of, long_in, normal_rows, is_store, stores_of, all_stored, first_met};

@@ -2,6 +2,7 @@
 //
 //     let freed = marks_pending::release(&mut table, marks::FREE);
 #![tactic(auto)]
+
 ghost use Rattle.std.specs.Prelude.{◌≡◌, false, map, ◌≤◌, length};
 ghost use Rattle.marks.specs.Marks.{is_pending, count_if};
 ghost use Rattle.marks.specs.Turned.{is_mark, released};

@@ -2,6 +2,7 @@
 //
 //     let first = marks_search::smallest_free(&table, 0);
 #![tactic(auto)]
+
 ghost use Rattle.std.specs.Prelude.{◌≡◌, ◌+◌, ◌<◌, ◌≤◌, length, take, drop};
 ghost use Rattle.marks.specs.Marks.{first_free, smallest_free, last_taken};
 

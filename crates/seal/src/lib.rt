@@ -3,6 +3,7 @@
 //     seal::write(slot);          // over the last four bytes
 //     if seal::agrees(slot) { .. }
 #![tactic(auto)]
+
 ghost use Rattle.std.specs.Prelude.{◌≡◌, ◌-◌};
 ghost use Rattle.seal.specs.Seal.{check_of, is_signed, resigned};
 

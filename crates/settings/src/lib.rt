@@ -6,6 +6,7 @@
 //         Judged::Refused(refusal) => ..,  // 1, too short; 4, the check differs; 6, another version; 7, another fanout
 //     }
 #![tactic(auto)]
+
 ghost use Rattle.std.specs.Prelude.{◌≡◌};
 ghost use Rattle.settings.specs.Settings.{Storing, storing, settings_of, agreement};
 
