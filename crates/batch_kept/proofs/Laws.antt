@@ -207,7 +207,7 @@ bad_row_read m r c =
     rw (no_address_is m.slots r.1 c) (not_and (ltb 0 r.0 && ltb r.0 m.ids) (eqb r.1 0 || is_location m.slots r.1))
 
 -- what an `if let` on an unpacked location tells where it is not refused
-pub not_refused : (u : Unpacked) → OneOf (0 ∷ 1 ∷ []) (tag_of the_type u) → no_address u ≡ false
+pub not_refused : (u : Unpacked) → ((r : Refusal) → u ≡ U.Refused r → ⊥) → no_address u ≡ false
 not_refused (U.At a) k = refl
 not_refused U.NoObject k = refl
-not_refused (U.Refused r) k = ⊎_elim (λ e. absurd (omega arith)) (λ e. absurd (omega arith)) k
+not_refused (U.Refused r) k = absurd (k r refl)

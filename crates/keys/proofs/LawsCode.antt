@@ -101,17 +101,18 @@ module _ (ss : List Bool) (rows : List ℕ) (n i : ℕ) (hn : length ss ≡ n)
 
 -- as many bytes as before
 pub first_written : (row kept first : List ℕ) (n : ℕ) → length row ≡ width → length kept ≡ width
-    → first ≡ take 8 row ++ drop (length (take 8 row)) kept → length (set first 8 n) ≡ width
+    → first ≡ take (length (take 8 row)) (take 8 row) ++ drop (length (take 8 row)) kept → length (set first 8 n) ≡ width
 first_written row kept first n l z f =
     let p = take 8 row in
     let a = length-take 8 row in
+    let b = length-take (length p) p in
     let d = length-drop (length p) kept in
-    length-set first 8 n ∙ ap length f ∙ length-append p (drop (length p) kept) ∙ omega (arith, a, d)
+    length-set first 8 n ∙ ap length f ∙ length-append (take (length p) p) (drop (length p) kept) ∙ omega (arith, a, b, d)
 
 -- the collection, the length, and then the key
 pub normal_written : (row kept first ys : List ℕ) (n : ℕ) → length row ≡ width → kept ≡ replicate width 0 → n ≡ kept_length row
-    → first ≡ take 8 row ++ drop (length (take 8 row)) kept
-    → ys ≡ take (16 + n - 16) (drop 16 row)
+    → first ≡ take (length (take 8 row)) (take 8 row) ++ drop (length (take 8 row)) kept
+    → ys ≡ take (length (take (16 + n - 16) (drop 16 row))) (take (16 + n - 16) (drop 16 row))
     ++ drop (length (take (16 + n - 16) (drop 16 row))) (take 71 (drop 9 (set first 8 n)))
     → put_mid 9 71 (set first 8 n) ys ≡ normal row
 unfolding normal
@@ -121,7 +122,7 @@ normal_written row kept first ys n l z k f g =
     let zeros = replicate {A = ℕ} 71 0 in
     let lp : length p ≡ 8 = length-take-le 8 row (omega arith) in
     let a : first ≡ p ++ (0 ∷ zeros) =
-    f ∙ ap (λ x. p ++ drop x kept) lp ∙ ap (λ x. p ++ drop 8 x) z in
+    f ∙ ap (λ x. x ++ drop (length p) kept) (take-length p) ∙ ap (λ x. p ++ drop x kept) lp ∙ ap (λ x. p ++ drop 8 x) z in
     let b : set first 8 n ≡ p ++ (n ∷ zeros) = ap (λ x. set x 8 n) a ∙ set_at p 0 zeros n 8 lp in
     let lq : length (p ++ (n ∷ [])) ≡ 9 = length-append p (n ∷ []) ∙ omega arith in
     let d : set first 8 n ≡ (p ++ (n ∷ [])) ++ (zeros ++ []) = b ∙ sym (append_snoc p n zeros) ∙ ap (λ x. (p ++ (n ∷ [])) ++ x) (sym (append-nil zeros)) in
@@ -131,7 +132,8 @@ normal_written row kept first ys n l z k f g =
     let c : take (16 + n - 16) (drop 16 row) ≡ key = ap (λ x. take x (drop 16 row)) m in
     let lk : length key ≡ kept_length row = length_key row l in
     let y : ys ≡ key ++ replicate (71 - kept_length row) 0 =
-    g ∙ ap (λ x. x ++ drop (length x) (take 71 (drop 9 (set first 8 n)))) c
+    g ∙ ap (λ x. take (length x) x ++ drop (length x) (take 71 (drop 9 (set first 8 n)))) c
+    ∙ ap (λ x. x ++ drop (length key) (take 71 (drop 9 (set first 8 n)))) (take-length key)
     ∙ ap (λ x. key ++ drop (length key) x) behind
     ∙ ap (λ x. key ++ drop x zeros) lk
     ∙ ap (λ x. key ++ x) (drop_zeros (kept_length row) 71) in

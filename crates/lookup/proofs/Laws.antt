@@ -75,7 +75,7 @@ module _ (ids slots : ℕ) (id_marks locations slot_marks owners words : List �
 
   module _ (h : held_in ids id_marks words i ≡ true) where
     -- no address: zero is no object, any other number contradicts the tables
-    pub located_none : (u : Unpacked) → u ≡ unpacked slots l → OneOf (1 ∷ 2 ∷ []) (tag_of the_type u)
+    pub located_none : (u : Unpacked) → u ≡ unpacked slots l → ((a : SlabAddress) → u ≡ U.At a → ⊥)
         → Located (L.Refused (refusal (cond (eqb l 0) no_such_id tables_disagree) 0))
     unfolding looked_in test ◌⨾◌
     located_none u e k =

@@ -47,7 +47,7 @@ spot_for_is cap t (free i) c len h = absurd (h refl)
 
 pub length_bump_each : (cap : ℕ) (t ls : List ℕ) → length (bump_each cap t ls) ≡ length t
 length_bump_each cap t [] = refl
-length_bump_each cap t (l ∷ ls) = length_bump_each cap _ ls ∙ go (is_location cap l)
+length_bump_each cap t (l ∷ ls) = length_bump_each cap (cond (is_location cap l) (bump t (l / unit) 1) t) ls ∙ go (is_location cap l)
   where
     go : (b : Bool) → length (cond b (bump t (l / unit) 1) t) ≡ length t
     go true = length_bump t (l / unit) 1
@@ -55,7 +55,7 @@ length_bump_each cap t (l ∷ ls) = length_bump_each cap _ ls ∙ go (is_locatio
 
 pub length_use_each : (cap : ℕ) (t ls : List ℕ) → length (use_each cap t ls) ≡ length t
 length_use_each cap t [] = refl
-length_use_each cap t (l ∷ ls) = length_use_each cap _ ls ∙ go (is_location cap l)
+length_use_each cap t (l ∷ ls) = length_use_each cap (cond (is_location cap l) (set t (l / unit) 1) t) ls ∙ go (is_location cap l)
   where
     go : (b : Bool) → length (cond b (set t (l / unit) 1) t) ≡ length t
     go true = length-set t (l / unit) 1

@@ -68,7 +68,7 @@ module _ (ids slots : ℕ) (id_marks locations slot_marks owners words : List �
     unfolding object_in
     held = ap (λ b. cond b (owned_by slots slot_marks owners words i l (unpacked slots l)) U.NoObject) h
 
-    pub object_none : (u : Unpacked) → u ≡ unpacked slots l → OneOf (1 ∷ 2 ∷ []) (tag_of the_type u) → Object (without_address l)
+    pub object_none : (u : Unpacked) → u ≡ unpacked slots l → ((a : SlabAddress) → u ≡ U.At a → ⊥) → Object (without_address l)
     object_none u e k =
         sym (held ∙ ap (owned_by slots slot_marks owners words i l) (sym e)
         ∙ else_is (owned_by slots slot_marks owners words i l) (without_address l) refl (λ r. refl) u k)

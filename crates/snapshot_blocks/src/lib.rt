@@ -9,6 +9,7 @@
 // A row is written straight from the store's tables: one copy of what is carried and three stores of eight bytes, the location and what is carried found
 // by the id. What cannot be written leaves the block as it was.
 #![tactic(auto)]
+
 ghost use Rattle.std.specs.Prelude.{not, cond, ◌&&◌, ◌++◌, map, ◌≡◌, ◌*◌, ◌+◌, ◌≤◌, ◌<◌, min, eqb, length, take, drop};
 ghost use Rattle.zeros.specs.Zeros.{all_zero};
 ghost use Rattle.keys.specs.Keys.{is_normal};

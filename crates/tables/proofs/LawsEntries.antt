@@ -59,15 +59,15 @@ pub end_part : (t : List ℕ) → take (length t - length t) (drop (length t) t)
 end_part t = rw (drop_of_length-le t {i = length t} (omega arith)) (take-nil (length t - length t))
 
 -- ---- what a `let .. else` on an unpacked location tells of its `else`
-pub else_is : {A : Type 0} (f : Unpacked → A) (d : A) → f U.NoObject ≡ d → ((r : Refusal) → f (U.Refused r) ≡ d) → (u : Unpacked) → OneOf (1 ∷ 2 ∷ []) (tag_of the_type u) → f u ≡ d
-else_is f d p q (U.At a) k = ⊎_elim (λ e. absurd (omega arith)) (λ e. absurd (omega arith)) k
+pub else_is : {A : Type 0} (f : Unpacked → A) (d : A) → f U.NoObject ≡ d → ((r : Refusal) → f (U.Refused r) ≡ d) → (u : Unpacked) → ((a : SlabAddress) → u ≡ U.At a → ⊥) → f u ≡ d
+else_is f d p q (U.At a) k = absurd (k a refl)
 else_is f d p q U.NoObject k = p
 else_is f d p q (U.Refused r) k = q r
 
 -- ---- locations
 -- refusal 13 by what a location unpacks to
 module _ (cap : ℕ) (marks owners words : List ℕ) (i l : ℕ) where
-  pub bad_in_none : (u : Unpacked) → u ≡ unpacked cap l → OneOf (1 ∷ 2 ∷ []) (tag_of the_type u) → bad_in cap marks owners words i l ≡ not (eqb l 0)
+  pub bad_in_none : (u : Unpacked) → u ≡ unpacked cap l → ((a : SlabAddress) → u ≡ U.At a → ⊥) → bad_in cap marks owners words i l ≡ not (eqb l 0)
   unfolding bad_by
   bad_in_none u e k = ap (bad_by cap marks owners words i l) (sym e) ∙ else_is (bad_by cap marks owners words i l) _ refl (λ r. refl) u k
 

@@ -8,6 +8,7 @@
 //
 // Any contents have a meaning; no function here asks anything of its caller.
 #![tactic(auto)]
+
 mod capacities;
 mod clear;
 mod entries;

@@ -1,6 +1,6 @@
 -- The loop's invariant: no row so far has too long a key, so that the first is found among the others. The measure is how many rows are left. Assumes nothing.
-use mathlib.Core.Path.{◌∙◌}
-use Prim.Native.Nat.{◌-◌}
+use mathlib.Core.Bool.{not}
+use mathlib.Core.Path.{ap, ◌∙◌}
 use native.Mathlib.Omega.{arith}
 use lib.ListN.{length}
 use Rattle.keys.specs.Keys.{stores_of}
@@ -10,10 +10,10 @@ use borrow.Author.Rules.{rules}
 use Rattle.keys.proofs.first_long.Goals as goal
 
 pub returns-then-not-whole : goal.returns-then-not-whole
-returns-then-not-whole c = not_whole _ _ _ _ c.whole.ensures c.if-not-whole.true-raw
+returns-then-not-whole c = not_whole _ _ _ _ c.whole.ensures (ap not c.if-not-whole.true)
 
 pub loop-i-init : goal.loop-i-init
-loop-i-init c = (search rules, is_whole _ _ _ c.whole.ensures c.if-not-whole.false-raw, omega arith)
+loop-i-init c = (search rules, is_whole _ _ _ c.whole.ensures (ap not c.if-not-whole.false), omega arith)
 
 pub returns-then-is_long : goal.returns-then-is_long
 returns-then-is_long c =

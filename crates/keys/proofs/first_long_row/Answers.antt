@@ -1,7 +1,8 @@
 -- As `first_long`, where each row is stored. Assumes nothing.
-use mathlib.Core.Path.{sym, ◌∙◌}
+use mathlib.Core.Bool.{not}
+use mathlib.Core.Path.{sym, ap, ◌∙◌}
 use mathlib.Core.Bool.{true, false}
-use Prim.Native.Nat.{◌-◌, ◌<◌}
+use Prim.Native.Nat.{◌<◌}
 use native.Mathlib.Omega.{arith}
 use lib.ListN.{replicate, length-replicate, get_or-replicate}
 use Rattle.keys.proofs.LawsCode.{not_whole, is_whole, when_whole, long_here, long_turn, long_end}
@@ -9,10 +10,10 @@ use borrow.Author.Rules.{rules}
 use Rattle.keys.proofs.first_long_row.Goals as goal
 
 pub returns-then-not-whole : goal.returns-then-not-whole
-returns-then-not-whole c = not_whole _ _ _ _ c.whole.ensures c.if-not-whole.true-raw
+returns-then-not-whole c = not_whole _ _ _ _ c.whole.ensures (ap not c.if-not-whole.true)
 
 pub loop-i-init : goal.loop-i-init
-loop-i-init c = (search rules, is_whole _ _ _ c.whole.ensures c.if-not-whole.false-raw, omega arith)
+loop-i-init c = (search rules, is_whole _ _ _ c.whole.ensures (ap not c.if-not-whole.false), omega arith)
 
 pub returns-then-is_long : goal.returns-then-is_long
 returns-then-is_long c =

@@ -1,5 +1,6 @@
 -- The loop's invariant: the rows still to come, kept in the column as it is, are all rows kept in the column as it was. Where the column has no row for
 -- the next it has none for the others. The measure is how many rows are left. Assumes nothing.
+use mathlib.Core.Bool.{not}
 use mathlib.Core.Path.{◌≡◌, refl, sym, ap, ◌∙◌}
 use Prim.Native.Nat.{◌-◌, ◌*◌}
 use native.Mathlib.Omega.{arith}
@@ -13,7 +14,7 @@ use borrow.Author.Rules.{rules}
 use Rattle.keys.proofs.keep.Goals as goal
 
 pub returns-then-not-whole : goal.returns-then-not-whole
-returns-then-not-whole c = not_whole _ _ _ _ c.whole.ensures c.if-not-whole.true-raw
+returns-then-not-whole c = not_whole _ _ _ _ c.whole.ensures (ap not c.if-not-whole.true)
 
 pub loop-i-init : goal.loop-i-init
 loop-i-init c =
@@ -21,7 +22,7 @@ loop-i-init c =
     let n = length a.stores.now in
     let e : n - 0 ≡ n = omega arith in (
       search rules,
-      is_whole _ _ _ c.whole.ensures c.if-not-whole.false-raw,
+      is_whole _ _ _ c.whole.ensures (ap not c.if-not-whole.false),
       refl,
       ap (λ x. put_rows width (up_from a.first x) (normal_rows (stores_of a.stores.now) a.rows.now) a.column.now) e,
     )

@@ -1,7 +1,8 @@
 -- The loop's invariant: the rows still to come, kept in the column as it is, are all rows kept in the column as it was. The measure is how many rows are
 -- left. Assumes nothing.
+use mathlib.Core.Bool.{not}
 use mathlib.Core.Path.{refl, sym, ap, ◌∙◌}
-use Prim.Native.Nat.{◌-◌, ◌*◌}
+use Prim.Native.Nat.{◌*◌}
 use native.Mathlib.Omega.{arith}
 use lib.ListN.{length, drop, get_or}
 use Rattle.carried.specs.Carried.{width}
@@ -12,10 +13,10 @@ use borrow.Author.Rules.{rules}
 use Rattle.keys.proofs.put_at.Goals as goal
 
 pub returns-then-not-whole : goal.returns-then-not-whole
-returns-then-not-whole c = not_whole _ _ _ _ c.whole.ensures c.if-not-whole.true-raw
+returns-then-not-whole c = not_whole _ _ _ _ c.whole.ensures (ap not c.if-not-whole.true)
 
 pub loop-i-init : goal.loop-i-init
-loop-i-init c = (search rules, is_whole _ _ _ c.whole.ensures c.if-not-whole.false-raw, refl, refl)
+loop-i-init c = (search rules, is_whole _ _ _ c.whole.ensures (ap not c.if-not-whole.false), refl, refl)
 
 pub keep_row-requires : goal.keep_row-requires
 keep_row-requires c =
