@@ -1,4 +1,4 @@
-//! Where libexports.a is: the folder in WENTUHORO_LIBRARY, or the one that `rt staticlib exports` writes to.
+//! Where libexports.a is: the folder in WENTUHORO_LIBRARY, or the one that `bindings/library` writes to.
 fn main() {
     let built_here = concat!(env!("CARGO_MANIFEST_DIR"), "/../../target/staticlib");
     let library = std::env::var("WENTUHORO_LIBRARY").unwrap_or_else(|_| built_here.into());

@@ -13,8 +13,7 @@ use tables::Capacities;
 
 // Takes a slot for each Store of a batch, and keeps what each row is to carry, one row after the other. Of `stores` a byte of 0 is a Free, any other a Store.
 // `placed` has as many rows as there are updates: their locations, 0 for a Free.
-#[unsafe(no_mangle)]
-pub extern "C" fn wentuhoro_offer(
+pub fn wentuhoro_offer(
     ids: usize,
     slots: usize,
     id_marks: &[u8],
@@ -110,8 +109,7 @@ pub extern "C" fn wentuhoro_offer(
 }
 
 // The open batch takes effect.
-#[unsafe(no_mangle)]
-pub extern "C" fn wentuhoro_commit(
+pub fn wentuhoro_commit(
     ids: usize,
     slots: usize,
     id_marks: &mut [u8],
@@ -157,8 +155,7 @@ pub extern "C" fn wentuhoro_commit(
 }
 
 // The open batch is dropped, and the slots that it took are free again.
-#[unsafe(no_mangle)]
-pub extern "C" fn wentuhoro_abandon(
+pub fn wentuhoro_abandon(
     ids: usize,
     slots: usize,
     slot_marks: &mut [u8],
@@ -186,8 +183,7 @@ pub extern "C" fn wentuhoro_abandon(
 }
 
 // Every pending id and slot becomes free.
-#[unsafe(no_mangle)]
-pub extern "C" fn wentuhoro_release(
+pub fn wentuhoro_release(
     ids: usize,
     slots: usize,
     id_marks: &mut [u8],

@@ -24,8 +24,7 @@ use settings::PersistentSettings;
 use sizes::Class;
 
 // The constant table of slab sizes: 78 values.
-#[unsafe(no_mangle)]
-pub extern "C" fn wentuhoro_slab_sizes(sizes: &mut [u64]) -> u64
+pub fn wentuhoro_slab_sizes(sizes: &mut [u64]) -> u64
     ensures { ◌≡◌ {A = Exported} (record { status = result; lent = sizes.new })
         (exported slabs (granted slab_sizes) sizes.old) }
 {
@@ -37,8 +36,7 @@ pub extern "C" fn wentuhoro_slab_sizes(sizes: &mut [u64]) -> u64
 }
 
 // The slab for an object of n bytes. One value.
-#[unsafe(no_mangle)]
-pub extern "C" fn wentuhoro_class(n: u64, slab: &mut [u64]) -> u64
+pub fn wentuhoro_class(n: u64, slab: &mut [u64]) -> u64
     ensures { ◌≡◌ {A = Exported} (record { status = result; lent = slab.new })
         (exported 1 (class_outcome (class_of n)) slab.old) }
 {
@@ -55,24 +53,21 @@ pub extern "C" fn wentuhoro_class(n: u64, slab: &mut [u64]) -> u64
 }
 
 // The CRC-32 of ISO 3309.
-#[unsafe(no_mangle)]
-pub extern "C" fn wentuhoro_crc32(bytes: &[u8]) -> u32
+pub fn wentuhoro_crc32(bytes: &[u8]) -> u32
     ensures { result ≡ crc32 bytes.now }
 {
     crc32::hash(bytes)
 }
 
 // The register after more bytes; it starts at FFFFFFFF and is complemented at the end.
-#[unsafe(no_mangle)]
-pub extern "C" fn wentuhoro_crc32_update(register: u32, bytes: &[u8]) -> u32
+pub fn wentuhoro_crc32_update(register: u32, bytes: &[u8]) -> u32
     ensures { result ≡ crc_over register bytes.now }
 {
     crc32::update(register, bytes)
 }
 
 // Writes an object into a slot.
-#[unsafe(no_mangle)]
-pub extern "C" fn wentuhoro_frame_write(slot: &mut [u8], object: &[u8]) -> u64
+pub fn wentuhoro_frame_write(slot: &mut [u8], object: &[u8]) -> u64
     ensures { (result ≡ status_of (finished_outcome (writing slot.old object.now).answer))
         × (slot.new ≡ (writing slot.old object.now).slot) }
 {
@@ -83,8 +78,7 @@ pub extern "C" fn wentuhoro_frame_write(slot: &mut [u8], object: &[u8]) -> u64
 }
 
 // The length of the object in a slot: the slot's own first bytes. One value.
-#[unsafe(no_mangle)]
-pub extern "C" fn wentuhoro_frame_read(slot: &[u8], length: &mut [u64]) -> u64
+pub fn wentuhoro_frame_read(slot: &[u8], length: &mut [u64]) -> u64
     ensures { ◌≡◌ {A = Exported} (record { status = result; lent = length.new })
         (exported 1 (verdict_outcome (verdict_of slot.now)) length.old) }
 {
@@ -101,8 +95,7 @@ pub extern "C" fn wentuhoro_frame_read(slot: &[u8], length: &mut [u64]) -> u64
 }
 
 // Writes a settings cookie of 64 bytes.
-#[unsafe(no_mangle)]
-pub extern "C" fn wentuhoro_cookie_write(leaf_fanout: u64, cookie: &mut [u8]) -> u64
+pub fn wentuhoro_cookie_write(leaf_fanout: u64, cookie: &mut [u8]) -> u64
     ensures { (result ≡ status_of (finished_outcome (storing leaf_fanout cookie.old).answer))
         × (cookie.new ≡ (storing leaf_fanout cookie.old).cookie) }
 {
@@ -113,8 +106,7 @@ pub extern "C" fn wentuhoro_cookie_write(leaf_fanout: u64, cookie: &mut [u8]) ->
 }
 
 // The fanout in a settings cookie. One value.
-#[unsafe(no_mangle)]
-pub extern "C" fn wentuhoro_cookie_read(cookie: &[u8], leaf_fanout: &mut [u64]) -> u64
+pub fn wentuhoro_cookie_read(cookie: &[u8], leaf_fanout: &mut [u64]) -> u64
     ensures { ◌≡◌ {A = Exported} (record { status = result; lent = leaf_fanout.new })
         (exported 1 (persistent_settings_outcome (settings_of cookie.now)) leaf_fanout.old) }
 {
@@ -131,8 +123,7 @@ pub extern "C" fn wentuhoro_cookie_read(cookie: &[u8], leaf_fanout: &mut [u64]) 
 }
 
 // Whether a settings cookie was written with this fanout.
-#[unsafe(no_mangle)]
-pub extern "C" fn wentuhoro_cookie_verify(cookie: &[u8], leaf_fanout: u64) -> u64
+pub fn wentuhoro_cookie_verify(cookie: &[u8], leaf_fanout: u64) -> u64
     ensures { result ≡ status_of (judged_outcome (agreement leaf_fanout (settings_of cookie.now))) }
 {
     match PersistentSettings::verify(cookie, leaf_fanout) {
@@ -142,13 +133,7 @@ pub extern "C" fn wentuhoro_cookie_verify(cookie: &[u8], leaf_fanout: u64) -> u6
 }
 
 // The packed location of a slot. One value.
-#[unsafe(no_mangle)]
-pub extern "C" fn wentuhoro_pack(
-    slots: usize,
-    slab: usize,
-    slot: usize,
-    location: &mut [u64],
-) -> u64
+pub fn wentuhoro_pack(slots: usize, slab: usize, slot: usize, location: &mut [u64]) -> u64
     ensures { ◌≡◌ {A = Exported} (record { status = result; lent = location.new })
         (exported 1 (packed_outcome (packed slots (record { slab = slab; slot = slot }))) location.old) }
 {
@@ -166,8 +151,7 @@ pub extern "C" fn wentuhoro_pack(
 }
 
 // The slot of a packed location. Three values: 1, slab, slot; or three zeros for no object.
-#[unsafe(no_mangle)]
-pub extern "C" fn wentuhoro_unpack(slots: usize, location: u64, address: &mut [u64]) -> u64
+pub fn wentuhoro_unpack(slots: usize, location: u64, address: &mut [u64]) -> u64
     ensures { ◌≡◌ {A = Exported} (record { status = result; lent = address.new })
         (exported 3 (or_zeros 3 (unpacked_outcome (unpacked slots location))) address.old) }
 {
@@ -188,8 +172,7 @@ pub extern "C" fn wentuhoro_unpack(slots: usize, location: u64, address: &mut [u
 }
 
 // The first slot to look at in a slab with so many live slots below its tip. Two values: 1, slot; or two zeros for nothing.
-#[unsafe(no_mangle)]
-pub extern "C" fn wentuhoro_fragmentation_cutoff(
+pub fn wentuhoro_fragmentation_cutoff(
     live: usize,
     tip: usize,
     ratio: f32,

@@ -1,9 +1,10 @@
-// The library's calls for C and Rust: numbers and slices alone.
+// The library's calls for C and Rust: numbers and slices alone. `exports_c` hands them on, each under its name.
 //
 // One convention. A call answers a status: 0 where it is granted, else the refusal's number plus 256 times its index. Values go to a
 // lent slice of exactly as many words, which is as it was on a refusal; a slice of another length is refused with 1, index 0. Two calls refuse
 // nothing and answer no status: wentuhoro_crc32 and wentuhoro_crc32_update answer a check and a register.
 #![tactic(auto)]
+
 mod batches;
 mod leaves;
 mod moves_and_cuts;

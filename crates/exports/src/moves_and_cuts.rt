@@ -15,8 +15,7 @@ use tables::Capacities;
 use truncation::Truncated;
 
 // The objects to move, by slab, then slot, in the first rows of two lists of ids - 1 rows. One value: how many rows.
-#[unsafe(no_mangle)]
-pub extern "C" fn wentuhoro_defrag(
+pub fn wentuhoro_defrag(
     ids: usize,
     slots: usize,
     locations: &[u64],
@@ -83,8 +82,7 @@ pub extern "C" fn wentuhoro_defrag(
 
 // Whether a slab's file is cut. Three values: 1, the length to cut it to, which is a whole number of slots, and the bytes from the length before
 // down to it; or three zeros to keep it.
-#[unsafe(no_mangle)]
-pub extern "C" fn wentuhoro_truncation(
+pub fn wentuhoro_truncation(
     ids: usize,
     slots: usize,
     slot_marks: &[u8],
@@ -132,8 +130,7 @@ pub extern "C" fn wentuhoro_truncation(
 }
 
 // A slab's file was cut.
-#[unsafe(no_mangle)]
-pub extern "C" fn wentuhoro_cut_done(
+pub fn wentuhoro_cut_done(
     ids: usize,
     slots: usize,
     slot_marks: &[u8],

@@ -15,8 +15,7 @@ use object_ids::{Counted, NewId};
 use tables::Capacities;
 
 // The smallest free id above 0, held from now on. One value.
-#[unsafe(no_mangle)]
-pub extern "C" fn wentuhoro_new_id(
+pub fn wentuhoro_new_id(
     ids: usize,
     slots: usize,
     id_marks: &mut [u8],
@@ -58,8 +57,7 @@ pub extern "C" fn wentuhoro_new_id(
 }
 
 // The location of an object, one value, and what its row carries.
-#[unsafe(no_mangle)]
-pub extern "C" fn wentuhoro_lookup(
+pub fn wentuhoro_lookup(
     ids: usize,
     slots: usize,
     id_marks: &[u8],
@@ -109,13 +107,7 @@ pub extern "C" fn wentuhoro_lookup(
 }
 
 // Ids granted, ids freed, slots granted, slots freed. Four values.
-#[unsafe(no_mangle)]
-pub extern "C" fn wentuhoro_stats(
-    ids: usize,
-    slots: usize,
-    tallies: &[u64],
-    sums: &mut [u64],
-) -> u64
+pub fn wentuhoro_stats(ids: usize, slots: usize, tallies: &[u64], sums: &mut [u64]) -> u64
     ensures { ◌≡◌ {A = Exported} (record { status = result; lent = sums.new })
         (exported 4 (outcome_of (answered (ask counters) ids slots
         tallies.now))
@@ -141,8 +133,7 @@ pub extern "C" fn wentuhoro_stats(
 }
 
 // What each allocator has granted and freed: the ids', then each slab's. 79 rows in both lists.
-#[unsafe(no_mangle)]
-pub extern "C" fn wentuhoro_counters(
+pub fn wentuhoro_counters(
     ids: usize,
     slots: usize,
     tallies: &[u64],

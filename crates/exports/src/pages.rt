@@ -8,8 +8,7 @@ use refusal::Finished;
 use tables::Capacities;
 
 // What a lookup answers of each id, in the order asked: its number, its location and what its row carries.
-#[unsafe(no_mangle)]
-pub extern "C" fn wentuhoro_lookup_page(
+pub fn wentuhoro_lookup_page(
     ids: usize,
     slots: usize,
     id_marks: &[u8],

@@ -26,8 +26,7 @@ fn put(told: &mut [u64], number: u64, standing: Standing, line: usize)
 // Why an object is on the defrag list of a ratio, or is not. Seven values: the reason's number (0 no such stored object, 1 its slab is full enough, 2 its
 // slot is before the line, 3 listed), slab, slot, how many smaller slots are held or pending, the slab's live slots and tip, and the line. All are 0
 // where nothing is stored, and so is the line of a slab that is full enough.
-#[unsafe(no_mangle)]
-pub extern "C" fn wentuhoro_reason(
+pub fn wentuhoro_reason(
     ids: usize,
     slots: usize,
     id_marks: &[u8],

@@ -20,8 +20,7 @@ use snapshot_writer::Measured;
 use tables::Capacities;
 
 // How many bytes a snapshot of the store takes. One value.
-#[unsafe(no_mangle)]
-pub extern "C" fn wentuhoro_snapshot_length(
+pub fn wentuhoro_snapshot_length(
     ids: usize,
     slots: usize,
     id_marks: &[u8],
@@ -52,8 +51,7 @@ pub extern "C" fn wentuhoro_snapshot_length(
 }
 
 // Writes a snapshot of the store into a file of just that many bytes.
-#[unsafe(no_mangle)]
-pub extern "C" fn wentuhoro_snapshot_write(
+pub fn wentuhoro_snapshot_write(
     ids: usize,
     slots: usize,
     id_marks: &[u8],
@@ -94,13 +92,7 @@ pub extern "C" fn wentuhoro_snapshot_write(
 
 // The row at a position of a snapshot. Eight values: 1, id, collection, location, block and row of the next position, and where in the file the
 // key stands and how long it is; or eight zeros at the end.
-#[unsafe(no_mangle)]
-pub extern "C" fn wentuhoro_snapshot_step(
-    file: &[u8],
-    block: usize,
-    row: usize,
-    values: &mut [u64],
-) -> u64
+pub fn wentuhoro_snapshot_step(file: &[u8], block: usize, row: usize, values: &mut [u64]) -> u64
     ensures { ◌≡◌ {A = Exported} (record { status = result; lent = values.new })
         (exported 8 (or_zeros 8 (step_outcome (step_by format_of block row file.now))) values.old) }
 {
@@ -132,8 +124,7 @@ pub extern "C" fn wentuhoro_snapshot_step(
 }
 
 // Reads a whole snapshot into lists, which have room for 20 rows a block, 5 where the first block is of version 2. How many rows there are, one value.
-#[unsafe(no_mangle)]
-pub extern "C" fn wentuhoro_snapshot_read(
+pub fn wentuhoro_snapshot_read(
     file: &[u8],
     row_ids: &mut [u64],
     row_locations: &mut [u64],

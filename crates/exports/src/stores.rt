@@ -11,8 +11,7 @@ use refusal::Finished;
 use tables::Capacities;
 
 // A store that holds nothing.
-#[unsafe(no_mangle)]
-pub extern "C" fn wentuhoro_fresh(
+pub fn wentuhoro_fresh(
     ids: usize,
     slots: usize,
     id_marks: &mut [u8],
@@ -58,8 +57,7 @@ pub extern "C" fn wentuhoro_fresh(
 }
 
 // A store that holds the rows' ids and slots, and nothing else.
-#[unsafe(no_mangle)]
-pub extern "C" fn wentuhoro_rebuild(
+pub fn wentuhoro_rebuild(
     ids: usize,
     slots: usize,
     id_marks: &mut [u8],

@@ -111,12 +111,13 @@ sample1 =
 unfoldable pub sample2 : List Asked
 sample2 =
     asked new_id (gave 1) ∷ asked new_id (gave 2) ∷ asked new_id (gave 3) ∷ asked new_id (gave 4) ∷ asked new_id (gave 5) ∷ asked new_id (gave 6) ∷
-    asked new_id (gave 7) ∷ asked new_id (gave 8) ∷ asked (offer_of (1 ∷ 2 ∷ 3 ∷ 4 ∷ 5 ∷ 6 ∷ 7 ∷ 8 ∷ []) (true ∷ true ∷ true ∷ true ∷ true ∷ true ∷ true ∷ true ∷
-    []) (3 ∷ 3 ∷ 3 ∷ 3 ∷ 3 ∷ 3 ∷ 3 ∷ 3 ∷ []) (keyed 72340172838076417 0 (up_from 1 64) ∷ keyed 72340172838076418 1 (up_from 1 64) ∷ keyed 72340172838076419 2
-    (up_from 1 64) ∷ keyed 72340172838076420 31 (up_from 1 64) ∷ keyed 72340172838076421 62 (up_from 1 64) ∷ keyed 72340172838076422 63 (up_from 1 64) ∷
-    keyed 72340172838076423 64 (up_from 1 64) ∷ plain 72340172838076424 ∷ [])) (placed (72057594037927936 ∷ 72057594037927937 ∷ 72057594037927938 ∷
-    72057594037927939 ∷ 72057594037927940 ∷ 72057594037927941 ∷ 72057594037927942 ∷ 72057594037927943 ∷ [])) ∷ asked commit done ∷
-    asked (lookup_of 1) (found_at 72057594037927936 72340172838076417 []) ∷ asked (lookup_of 2) (found_at 72057594037927937 72340172838076418 (1 ∷ [])) ∷
+    asked new_id (gave 7) ∷ asked new_id (gave 8) ∷ asked (offer_of (1 ∷ 2 ∷ 3 ∷ 4 ∷ 5 ∷ 6 ∷ 7 ∷ 8 ∷ []) (true ∷ true ∷ true ∷ true ∷ true ∷ true ∷ true ∷
+    true ∷ []) (3 ∷ 3 ∷ 3 ∷ 3 ∷ 3 ∷ 3 ∷ 3 ∷ 3 ∷ []) (keyed 72340172838076417 0 (up_from 1 64) ∷ keyed 72340172838076418 1 (up_from 1 64) ∷
+    keyed 72340172838076419 2 (up_from 1 64) ∷ keyed 72340172838076420 31 (up_from 1 64) ∷ keyed 72340172838076421 62 (up_from 1 64) ∷
+    keyed 72340172838076422 63 (up_from 1 64) ∷ keyed 72340172838076423 64 (up_from 1 64) ∷ plain 72340172838076424 ∷ [])) (placed (72057594037927936 ∷
+    72057594037927937 ∷ 72057594037927938 ∷ 72057594037927939 ∷ 72057594037927940 ∷ 72057594037927941 ∷ 72057594037927942 ∷ 72057594037927943 ∷ [])) ∷
+    asked commit done ∷ asked (lookup_of 1) (found_at 72057594037927936 72340172838076417 []) ∷
+    asked (lookup_of 2) (found_at 72057594037927937 72340172838076418 (1 ∷ [])) ∷
     asked (lookup_of 3) (found_at 72057594037927938 72340172838076419 (1 ∷ 2 ∷ [])) ∷
     asked (lookup_of 4) (found_at 72057594037927939 72340172838076420 (up_from 1 31)) ∷
     asked (lookup_of 5) (found_at 72057594037927940 72340172838076421 (up_from 1 62)) ∷
@@ -124,18 +125,19 @@ sample2 =
     asked (lookup_of 7) (found_at 72057594037927942 72340172838076423 (up_from 1 64)) ∷ asked (lookup_of 8) (found_at 72057594037927943 72340172838076424 []) ∷
     asked (ask snapshot_length) (gave 1024) ∷ denied (snapshot_in 512) 1 0 ∷ asked (offer_of (1 ∷ 7 ∷ 8 ∷ []) (true ∷ true ∷ true ∷ []) (3 ∷ 3 ∷ 3 ∷ [])
     (keyed 144680345676152833 64 (replicate 64 255) ∷ keyed 144680345676152839 3 (110 ∷ 101 ∷ 119 ∷ []) ∷ keyed 144680345676152840 5 [] ∷ [])) (placed
-    (72057594037927944 ∷ 72057594037927945 ∷ 72057594037927946 ∷ [])) ∷ asked (lookup_of 1) (found_at 72057594037927936 72340172838076417 []) ∷ asked (page_of (1 ∷
-    7 ∷ 9 ∷ 1 ∷ [])) (told (told_row 72057594037927936 72340172838076417 [] ∷ told_row 72057594037927942 72340172838076423 (up_from 1 64) ∷ refused_row 8 ∷
+    (72057594037927944 ∷ 72057594037927945 ∷ 72057594037927946 ∷ [])) ∷ asked (lookup_of 1) (found_at 72057594037927936 72340172838076417 []) ∷ asked (page_of
+    (1 ∷ 7 ∷ 9 ∷ 1 ∷ [])) (told (told_row 72057594037927936 72340172838076417 [] ∷ told_row 72057594037927942 72340172838076423 (up_from 1 64) ∷ refused_row 8 ∷
     told_row 72057594037927936 72340172838076417 [] ∷ [])) ∷ asked commit done ∷
     asked (lookup_of 1) (found_at 72057594037927944 144680345676152833 (replicate 64 255)) ∷
-    asked (lookup_of 2) (found_at 72057594037927937 72340172838076418 (1 ∷ [])) ∷ asked (lookup_of 3) (found_at 72057594037927938 72340172838076419 (1 ∷ 2 ∷ [])) ∷
+    asked (lookup_of 2) (found_at 72057594037927937 72340172838076418 (1 ∷ [])) ∷
+    asked (lookup_of 3) (found_at 72057594037927938 72340172838076419 (1 ∷ 2 ∷ [])) ∷
     asked (lookup_of 4) (found_at 72057594037927939 72340172838076420 (up_from 1 31)) ∷
     asked (lookup_of 5) (found_at 72057594037927940 72340172838076421 (up_from 1 62)) ∷
     asked (lookup_of 6) (found_at 72057594037927941 72340172838076422 (up_from 1 63)) ∷
     asked (lookup_of 7) (found_at 72057594037927945 144680345676152839 (110 ∷ 101 ∷ 119 ∷ [])) ∷
-    asked (lookup_of 8) (found_at 72057594037927946 144680345676152840 (replicate 5 0)) ∷ asked (ask snapshot_length) (gave 1024) ∷ denied (snapshot_in 1025) 1 0 ∷
-    asked (offer_of (6 ∷ []) (true ∷ []) (3 ∷ []) (keyed 217020518514229254 7 (110 ∷ 111 ∷ 116 ∷ 104 ∷ 105 ∷ 110 ∷ 103 ∷ []) ∷ [])) (placed (72057594037927947 ∷
-    [])) ∷ []
+    asked (lookup_of 8) (found_at 72057594037927946 144680345676152840 (replicate 5 0)) ∷ asked (ask snapshot_length) (gave 1024) ∷
+    denied (snapshot_in 1025) 1 0 ∷ asked (offer_of (6 ∷ []) (true ∷ []) (3 ∷ []) (keyed 217020518514229254 7 (110 ∷ 111 ∷ 116 ∷ 104 ∷ 105 ∷ 110 ∷ 103 ∷ []) ∷
+    [])) (placed (72057594037927947 ∷ [])) ∷ []
 
 -- stores.txt, history 9: 21 beside other refusals; 101 calls after fresh, less those that the list says in part
 unfoldable pub sample3 : List Asked
@@ -162,9 +164,9 @@ sample3 =
     denied (offer_of (2 ∷ 0 ∷ []) (true ∷ true ∷ []) (3 ∷ 3 ∷ []) (keyed 1374463283923451906 65 [] ∷ plain 1374463283923451904 ∷ [])) 21 0 ∷
     denied (offer_of (2 ∷ 0 ∷ []) (true ∷ true ∷ []) (3 ∷ 3 ∷ []) (plain 1446803456761528322 ∷ keyed 1446803456761528320 65 [] ∷ [])) 8 1 ∷
     denied (offer_of (2 ∷ 0 ∷ []) (true ∷ true ∷ []) (3 ∷ 3 ∷ []) (keyed 1519143629599604738 65 [] ∷ keyed 1519143629599604736 65 [] ∷ [])) 21 0 ∷
-    denied (offer_of (1 ∷ 1 ∷ []) (true ∷ true ∷ []) (3 ∷ 3 ∷ []) (plain 1591483802437681153 ∷ keyed 1591483802437681153 65 [] ∷ [])) 9 1 ∷ denied (offer_of (1 ∷
-    1 ∷ 2 ∷ []) (true ∷ true ∷ true ∷ []) (3 ∷ 3 ∷ 3 ∷ []) (plain 1663823975275757569 ∷ plain 1663823975275757569 ∷ keyed 1663823975275757570 65 [] ∷ [])) 9 1 ∷
-    denied (offer_of (1 ∷ 2 ∷ 1 ∷ []) (true ∷ true ∷ true ∷ []) (3 ∷ 3 ∷ 3 ∷ []) (plain 1736164148113833985 ∷ keyed 1736164148113833986 65 [] ∷
+    denied (offer_of (1 ∷ 1 ∷ []) (true ∷ true ∷ []) (3 ∷ 3 ∷ []) (plain 1591483802437681153 ∷ keyed 1591483802437681153 65 [] ∷ [])) 9 1 ∷ denied (offer_of
+    (1 ∷ 1 ∷ 2 ∷ []) (true ∷ true ∷ true ∷ []) (3 ∷ 3 ∷ 3 ∷ []) (plain 1663823975275757569 ∷ plain 1663823975275757569 ∷ keyed 1663823975275757570 65 [] ∷
+    [])) 9 1 ∷ denied (offer_of (1 ∷ 2 ∷ 1 ∷ []) (true ∷ true ∷ true ∷ []) (3 ∷ 3 ∷ 3 ∷ []) (plain 1736164148113833985 ∷ keyed 1736164148113833986 65 [] ∷
     plain 1736164148113833985 ∷ [])) 21 1 ∷ denied (offer_of (1 ∷ 2 ∷ 1 ∷ []) (true ∷ true ∷ true ∷ []) (3 ∷ 3 ∷ 3 ∷ []) (plain 1808504320951910401 ∷
     plain 1808504320951910402 ∷ keyed 1808504320951910401 65 [] ∷ [])) 9 2 ∷ denied (offer_of (1 ∷ 2 ∷ 1 ∷ []) (true ∷ true ∷ true ∷ []) (3 ∷ 3 ∷ 3 ∷ [])
     (plain 1880844493789986817 ∷ keyed 1880844493789986818 65 [] ∷ keyed 1880844493789986817 65 [] ∷ [])) 21 1 ∷
@@ -178,16 +180,16 @@ sample3 =
     denied (offer_of (2 ∷ 4 ∷ []) (true ∷ false ∷ []) (3 ∷ 0 ∷ []) (keyed 2459565876494598146 65 [] ∷ plain 2459565876494598148 ∷ [])) 21 0 ∷
     denied (offer_of (2 ∷ 4 ∷ []) (true ∷ false ∷ []) (3 ∷ 0 ∷ []) (plain 2531906049332674562 ∷ keyed 2531906049332674564 65 [] ∷ [])) 8 1 ∷
     denied (offer_of (2 ∷ 4 ∷ []) (true ∷ false ∷ []) (3 ∷ 0 ∷ []) (keyed 2604246222170750978 65 [] ∷ keyed 2604246222170750980 65 [] ∷ [])) 21 0 ∷
-    denied (offer_of (1 ∷ 1 ∷ []) (true ∷ false ∷ []) (3 ∷ 0 ∷ []) (plain 2676586395008827393 ∷ keyed 2676586395008827393 65 [] ∷ [])) 9 1 ∷ denied (offer_of (1 ∷
-    1 ∷ 2 ∷ []) (true ∷ false ∷ true ∷ []) (3 ∷ 0 ∷ 3 ∷ []) (plain 2748926567846903809 ∷ plain 2748926567846903809 ∷ keyed 2748926567846903810 65 [] ∷
+    denied (offer_of (1 ∷ 1 ∷ []) (true ∷ false ∷ []) (3 ∷ 0 ∷ []) (plain 2676586395008827393 ∷ keyed 2676586395008827393 65 [] ∷ [])) 9 1 ∷ denied (offer_of
+    (1 ∷ 1 ∷ 2 ∷ []) (true ∷ false ∷ true ∷ []) (3 ∷ 0 ∷ 3 ∷ []) (plain 2748926567846903809 ∷ plain 2748926567846903809 ∷ keyed 2748926567846903810 65 [] ∷
     [])) 9 1 ∷ denied (offer_of (1 ∷ 2 ∷ 1 ∷ []) (true ∷ true ∷ false ∷ []) (3 ∷ 3 ∷ 0 ∷ []) (plain 2821266740684980225 ∷ keyed 2821266740684980226 65 [] ∷
     plain 2821266740684980225 ∷ [])) 21 1 ∷ denied (offer_of (1 ∷ 2 ∷ 1 ∷ []) (true ∷ true ∷ false ∷ []) (3 ∷ 3 ∷ 0 ∷ []) (plain 2893606913523056641 ∷
     plain 2893606913523056642 ∷ keyed 2893606913523056641 65 [] ∷ [])) 9 2 ∷ denied (offer_of (1 ∷ 2 ∷ 1 ∷ []) (true ∷ true ∷ false ∷ []) (3 ∷ 3 ∷ 0 ∷ [])
     (plain 2965947086361133057 ∷ keyed 2965947086361133058 65 [] ∷ keyed 2965947086361133057 65 [] ∷ [])) 21 1 ∷
     asked (offer_of (1 ∷ []) (false ∷ []) (0 ∷ []) (keyed 3038287259199209473 65 [] ∷ [])) (placed (0 ∷ [])) ∷ asked abandon done ∷
     denied (offer_of (1 ∷ 2 ∷ []) (false ∷ true ∷ []) (0 ∷ 3 ∷ []) (plain 3110627432037285889 ∷ keyed 3110627432037285890 65 [] ∷ [])) 21 1 ∷
-    denied (offer_of (2 ∷ 1 ∷ []) (true ∷ false ∷ []) (3 ∷ 0 ∷ []) (keyed 3182967604875362306 65 [] ∷ plain 3182967604875362305 ∷ [])) 21 0 ∷ asked (offer_of (2 ∷
-    1 ∷ []) (true ∷ false ∷ []) (3 ∷ 0 ∷ []) (plain 3255307777713438722 ∷ keyed 3255307777713438721 65 [] ∷ [])) (placed (72057594037927937 ∷ 0 ∷ [])) ∷
+    denied (offer_of (2 ∷ 1 ∷ []) (true ∷ false ∷ []) (3 ∷ 0 ∷ []) (keyed 3182967604875362306 65 [] ∷ plain 3182967604875362305 ∷ [])) 21 0 ∷ asked (offer_of
+    (2 ∷ 1 ∷ []) (true ∷ false ∷ []) (3 ∷ 0 ∷ []) (plain 3255307777713438722 ∷ keyed 3255307777713438721 65 [] ∷ [])) (placed (72057594037927937 ∷ 0 ∷ [])) ∷
     asked abandon done ∷
     denied (offer_of (2 ∷ 1 ∷ []) (true ∷ false ∷ []) (3 ∷ 0 ∷ []) (keyed 3327647950551515138 65 [] ∷ keyed 3327647950551515137 65 [] ∷ [])) 21 0 ∷ denied
     (offer_of (1 ∷ 2 ∷ 3 ∷ []) (true ∷ true ∷ true ∷ []) (3 ∷ 3 ∷ 3 ∷ []) (plain 3399988123389591553 ∷ plain 3399988123389591554 ∷ plain 3399988123389591555 ∷
@@ -219,11 +221,11 @@ sample3 =
     denied (rebuild_of (2 ∷ 1 ∷ []) (72057594037927937 ∷ 72057594037927938 ∷ []) (keyed 5063812098665349122 65 [] ∷ plain 5063812098665349121 ∷ [])) 21 0 ∷
     denied (rebuild_of (2 ∷ 1 ∷ []) (72057594037927937 ∷ 72057594037927938 ∷ []) (plain 5136152271503425538 ∷ keyed 5136152271503425537 65 [] ∷ [])) 3 1 ∷
     denied (rebuild_of (3 ∷ 1 ∷ []) (72057594037927936 ∷ 72057594037927936 ∷ []) (plain 5208492444341501955 ∷ keyed 5208492444341501953 65 [] ∷ [])) 16 1 ∷
-    denied (rebuild_of (3 ∷ 1 ∷ 2 ∷ []) (72057594037927936 ∷ 72057594037927936 ∷ 72057594037927937 ∷ []) (plain 5280832617179578371 ∷ plain 5280832617179578369 ∷
-    keyed 5280832617179578370 65 [] ∷ [])) 16 1 ∷ denied (rebuild_of (3 ∷ 2 ∷ 1 ∷ []) (72057594037927936 ∷ 72057594037927937 ∷ 72057594037927936 ∷ [])
-    (plain 5353172790017654787 ∷ keyed 5353172790017654786 65 [] ∷ plain 5353172790017654785 ∷ [])) 21 1 ∷ denied (rebuild_of (3 ∷ 2 ∷ 1 ∷ [])
-    (72057594037927936 ∷ 72057594037927937 ∷ 72057594037927936 ∷ []) (plain 5425512962855731203 ∷ plain 5425512962855731202 ∷ keyed 5425512962855731201 65 [] ∷
-    [])) 16 2 ∷ denied (rebuild_of (1 ∷ []) (72057594037927936 ∷ []) (keyed 5497853135693807617 65 [] ∷ [])) 21 0 ∷
+    denied (rebuild_of (3 ∷ 1 ∷ 2 ∷ []) (72057594037927936 ∷ 72057594037927936 ∷ 72057594037927937 ∷ []) (plain 5280832617179578371 ∷
+    plain 5280832617179578369 ∷ keyed 5280832617179578370 65 [] ∷ [])) 16 1 ∷ denied (rebuild_of (3 ∷ 2 ∷ 1 ∷ []) (72057594037927936 ∷ 72057594037927937 ∷
+    72057594037927936 ∷ []) (plain 5353172790017654787 ∷ keyed 5353172790017654786 65 [] ∷ plain 5353172790017654785 ∷ [])) 21 1 ∷ denied (rebuild_of (3 ∷ 2 ∷
+    1 ∷ []) (72057594037927936 ∷ 72057594037927937 ∷ 72057594037927936 ∷ []) (plain 5425512962855731203 ∷ plain 5425512962855731202 ∷
+    keyed 5425512962855731201 65 [] ∷ [])) 16 2 ∷ denied (rebuild_of (1 ∷ []) (72057594037927936 ∷ []) (keyed 5497853135693807617 65 [] ∷ [])) 21 0 ∷
     denied (rebuild_of (1 ∷ 2 ∷ []) (72057594037927936 ∷ 72057594037927937 ∷ []) (plain 5570193308531884033 ∷ keyed 5570193308531884034 65 [] ∷ [])) 21 1 ∷
     denied (rebuild_of (2 ∷ 1 ∷ []) (72057594037927937 ∷ 72057594037927936 ∷ []) (keyed 5642533481369960450 65 [] ∷ plain 5642533481369960449 ∷ [])) 21 0 ∷
     denied (rebuild_of (2 ∷ 1 ∷ []) (72057594037927937 ∷ 72057594037927936 ∷ []) (plain 5714873654208036866 ∷ keyed 5714873654208036865 65 [] ∷ [])) 21 1 ∷
@@ -236,10 +238,11 @@ sample3 =
     (rebuild_of (2 ∷ 1 ∷ []) (72057594037927937 ∷ 72057594037927936 ∷ []) (keyed 6148914691236495362 64 [] ∷ keyed 6148914691236495361 257 (replicate 64 255) ∷
     [])) 21 1 ∷ denied (rebuild_of (2 ∷ 1 ∷ []) (72057594037927937 ∷ 72057594037927936 ∷ []) (keyed 6221254864074571778 64 [] ∷
     keyed 6221254864074571777 4294967296 (replicate 64 255) ∷ [])) 21 1 ∷ denied (rebuild_of (2 ∷ 1 ∷ []) (72057594037927937 ∷ 72057594037927936 ∷ [])
-    (keyed 6293595036912648194 64 [] ∷ keyed 6293595036912648193 4294967297 (replicate 64 255) ∷ [])) 21 1 ∷ denied (rebuild_of (2 ∷ 1 ∷ []) (72057594037927937 ∷
-    72057594037927936 ∷ []) (keyed 6365935209750724610 64 [] ∷ keyed 6365935209750724609 9223372036854775808 (replicate 64 255) ∷ [])) 21 1 ∷ denied (rebuild_of
-    (2 ∷ 1 ∷ []) (72057594037927937 ∷ 72057594037927936 ∷ []) (keyed 6438275382588801026 64 [] ∷ keyed 6438275382588801025 18446744073709551615
-    (replicate 64 255) ∷ [])) 21 1 ∷ asked (lookup_of 1) (found_at 72057594037927936 72340172838076417 (replicate 64 255)) ∷
+    (keyed 6293595036912648194 64 [] ∷ keyed 6293595036912648193 4294967297 (replicate 64 255) ∷ [])) 21 1 ∷ denied (rebuild_of (2 ∷ 1 ∷ [])
+    (72057594037927937 ∷ 72057594037927936 ∷ []) (keyed 6365935209750724610 64 [] ∷ keyed 6365935209750724609 9223372036854775808 (replicate 64 255) ∷
+    [])) 21 1 ∷ denied (rebuild_of (2 ∷ 1 ∷ []) (72057594037927937 ∷ 72057594037927936 ∷ []) (keyed 6438275382588801026 64 [] ∷
+    keyed 6438275382588801025 18446744073709551615 (replicate 64 255) ∷ [])) 21 1 ∷
+    asked (lookup_of 1) (found_at 72057594037927936 72340172838076417 (replicate 64 255)) ∷
     asked (lookup_of 2) (found_at 72057594037927937 3617008641903820802 []) ∷ []
 
 -- stores.txt, history 10; 36 calls after fresh, less those that the list says in part
@@ -251,23 +254,24 @@ sample4 =
     denied (snapshot_in 513) 1 0 ∷ asked (defrag_of (fin false 1 (negsuc 0)) 4) (moves []) ∷ asked new_id (gave 1) ∷ asked (truncation 0 86) (truncated keep) ∷
     denied (report 0 86) 17 0 ∷ asked (truncation 0 86) (truncated keep) ∷ denied (report 0 86) 17 0 ∷
     asked (defrag_of (fin false 15099495 (negsuc 23)) 4) (moves []) ∷ denied (offer_of (1 ∷ 1 ∷ 2 ∷ []) (true ∷ true ∷ true ∷ []) (3 ∷ 3 ∷ 3 ∷ [])
-    (plain 217020518514229249 ∷ keyed 217020518514229249 3 (40 ∷ 232 ∷ 64 ∷ []) ∷ keyed 217020518514229250 2 (21 ∷ 125 ∷ []) ∷ [])) 9 1 ∷ asked new_id (gave 3) ∷
-    denied (lookup_of 18446744073709551615) 8 0 ∷ denied (defrag_of nan 4) 14 0 ∷ asked release done ∷ asked (offer_of (1 ∷ 2 ∷ 3 ∷ []) (true ∷ true ∷ true ∷ [])
-    (3 ∷ 3 ∷ 3 ∷ []) (plain 289360691352305665 ∷ plain 289360691352305666 ∷ plain 289360691352305667 ∷ [])) (placed (72057594037927937 ∷ 72057594037927938 ∷
-    72057594037927939 ∷ [])) ∷ asked commit done ∷ asked (lookup_of 2) (found_at 72057594037927938 289360691352305666 []) ∷ denied commit 12 0 ∷
-    denied (defrag_of nan 4) 14 0 ∷ denied (lookup_of 5) 8 0 ∷ asked (ask counters) (counts_from ((0, 3, 0) ∷ (1, 3, 0) ∷ []) 3 0 3 0) ∷ asked (page_of (3 ∷ 3 ∷ 3 ∷
-    2 ∷ [])) (told (told_row 72057594037927939 289360691352305667 [] ∷ told_row 72057594037927939 289360691352305667 [] ∷
-    told_row 72057594037927939 289360691352305667 [] ∷ told_row 72057594037927938 289360691352305666 [] ∷ [])) ∷ asked release done ∷ asked (offer_of (1 ∷ 2 ∷ 3 ∷
-    []) (false ∷ true ∷ true ∷ []) (0 ∷ 3 ∷ 3 ∷ []) (plain 361700864190382081 ∷ plain 361700864190382082 ∷ plain 361700864190382083 ∷ [])) (placed (0 ∷
-    72057594037927936 ∷ 72057594037927940 ∷ [])) ∷ asked commit done ∷ asked release done ∷ asked (defrag_of (fin false 1 (negsuc 148)) 4) (moves []) ∷
+    (plain 217020518514229249 ∷ keyed 217020518514229249 3 (40 ∷ 232 ∷ 64 ∷ []) ∷ keyed 217020518514229250 2 (21 ∷ 125 ∷ []) ∷ [])) 9 1 ∷
+    asked new_id (gave 3) ∷ denied (lookup_of 18446744073709551615) 8 0 ∷ denied (defrag_of nan 4) 14 0 ∷ asked release done ∷ asked (offer_of (1 ∷ 2 ∷ 3 ∷ [])
+    (true ∷ true ∷ true ∷ []) (3 ∷ 3 ∷ 3 ∷ []) (plain 289360691352305665 ∷ plain 289360691352305666 ∷ plain 289360691352305667 ∷ [])) (placed
+    (72057594037927937 ∷ 72057594037927938 ∷ 72057594037927939 ∷ [])) ∷ asked commit done ∷
+    asked (lookup_of 2) (found_at 72057594037927938 289360691352305666 []) ∷ denied commit 12 0 ∷ denied (defrag_of nan 4) 14 0 ∷ denied (lookup_of 5) 8 0 ∷
+    asked (ask counters) (counts_from ((0, 3, 0) ∷ (1, 3, 0) ∷ []) 3 0 3 0) ∷ asked (page_of (3 ∷ 3 ∷ 3 ∷ 2 ∷ [])) (told
+    (told_row 72057594037927939 289360691352305667 [] ∷ told_row 72057594037927939 289360691352305667 [] ∷ told_row 72057594037927939 289360691352305667 [] ∷
+    told_row 72057594037927938 289360691352305666 [] ∷ [])) ∷ asked release done ∷ asked (offer_of (1 ∷ 2 ∷ 3 ∷ []) (false ∷ true ∷ true ∷ []) (0 ∷ 3 ∷ 3 ∷ [])
+    (plain 361700864190382081 ∷ plain 361700864190382082 ∷ plain 361700864190382083 ∷ [])) (placed (0 ∷ 72057594037927936 ∷ 72057594037927940 ∷ [])) ∷
+    asked commit done ∷ asked release done ∷ asked (defrag_of (fin false 1 (negsuc 148)) 4) (moves []) ∷
     asked (lookup_of 2) (found_at 72057594037927936 361700864190382082 []) ∷ []
 
 -- stores.txt, history 14; 20 calls after fresh, less those that the list says in part
 unfoldable pub sample5 : List Asked
 sample5 =
     asked (offer_of [] [] [] []) (placed []) ∷ asked abandon done ∷ asked new_id (gave 1) ∷ asked (offer_of (1 ∷ []) (true ∷ []) (8388599 ∷ [])
-    (keyed 144680345676152833 4 (175 ∷ 178 ∷ 58 ∷ 114 ∷ 228 ∷ 86 ∷ []) ∷ [])) (placed (4035225266123964416 ∷ [])) ∷ asked commit done ∷ denied (offer_of (1 ∷ 1 ∷
-    []) (true ∷ true ∷ []) (8388599 ∷ 17179869173 ∷ []) (plain 217020518514229249 ∷ keyed 217020518514229249 3 (95 ∷ 13 ∷ 233 ∷ 22 ∷ 236 ∷ []) ∷ [])) 9 1 ∷
+    (keyed 144680345676152833 4 (175 ∷ 178 ∷ 58 ∷ 114 ∷ 228 ∷ 86 ∷ []) ∷ [])) (placed (4035225266123964416 ∷ [])) ∷ asked commit done ∷ denied (offer_of (1 ∷
+    1 ∷ []) (true ∷ true ∷ []) (8388599 ∷ 17179869173 ∷ []) (plain 217020518514229249 ∷ keyed 217020518514229249 3 (95 ∷ 13 ∷ 233 ∷ 22 ∷ 236 ∷ []) ∷ [])) 9 1 ∷
     asked release done ∷ asked release done ∷ asked new_id (gave 2) ∷ asked new_id (gave 3) ∷ asked new_id (gave 4) ∷
     asked (defrag_of (fin false 11184811 (negsuc 24)) 4) (moves []) ∷
     asked (rebuild_of (1 ∷ []) (4035225266123964416 ∷ []) (keyed 144680345676152833 4 (175 ∷ 178 ∷ 58 ∷ 114 ∷ []) ∷ [])) done ∷
@@ -282,9 +286,9 @@ sample6 =
     denied (defrag_of (fin true 0 (pos 0)) 7) 14 0 ∷ asked release done ∷ asked (offer_of [] [] [] []) (placed []) ∷ asked commit done ∷
     asked (offer_of [] [] [] []) (placed []) ∷ denied new_id 11 0 ∷ denied release 11 0 ∷ denied (offer_of [] [] [] []) 11 0 ∷
     denied (defrag_of (fin false 3 (negsuc 1)) 7) 11 0 ∷ denied (truncation 0 80) 11 0 ∷ denied (report 0 80) 11 0 ∷ denied (lookup_of 1) 8 0 ∷
-    denied (ask snapshot_length) 11 0 ∷ denied (snapshot_in 0) 1 0 ∷ denied (snapshot_in 512) 11 0 ∷ asked commit done ∷ asked release done ∷ asked release done ∷
-    asked new_id (gave 1) ∷ denied (truncation 78 86) 3 0 ∷ denied (report 78 86) 3 0 ∷ denied (truncation 78 86) 3 0 ∷ denied (report 78 86) 3 0 ∷
-    asked new_id (gave 2) ∷ []
+    denied (ask snapshot_length) 11 0 ∷ denied (snapshot_in 0) 1 0 ∷ denied (snapshot_in 512) 11 0 ∷ asked commit done ∷ asked release done ∷
+    asked release done ∷ asked new_id (gave 1) ∷ denied (truncation 78 86) 3 0 ∷ denied (report 78 86) 3 0 ∷ denied (truncation 78 86) 3 0 ∷
+    denied (report 78 86) 3 0 ∷ asked new_id (gave 2) ∷ []
 
 -- stores.txt, history 52; 29 calls after fresh, less those that the list says in part
 unfoldable pub sample7 : List Asked
@@ -301,8 +305,8 @@ sample7 =
 -- files.txt, history 5; 43 calls after fresh, less those that the list says in part
 unfoldable pub sample8 : List Asked
 sample8 =
-    asked (offer_of [] [] [] []) (placed []) ∷ asked commit done ∷ asked new_id (gave 1) ∷ asked new_id (gave 2) ∷ asked new_id (gave 3) ∷ asked (offer_of (1 ∷ 2 ∷
-    3 ∷ []) (true ∷ true ∷ true ∷ []) (3 ∷ 662 ∷ 3 ∷ []) (plain 144680345676152833 ∷ keyed 144680345676152834 2 (11 ∷ 183 ∷ []) ∷ plain 144680345676152835 ∷
+    asked (offer_of [] [] [] []) (placed []) ∷ asked commit done ∷ asked new_id (gave 1) ∷ asked new_id (gave 2) ∷ asked new_id (gave 3) ∷ asked (offer_of (1 ∷
+    2 ∷ 3 ∷ []) (true ∷ true ∷ true ∷ []) (3 ∷ 662 ∷ 3 ∷ []) (plain 144680345676152833 ∷ keyed 144680345676152834 2 (11 ∷ 183 ∷ []) ∷ plain 144680345676152835 ∷
     [])) (placed (72057594037927936 ∷ 1080863910568919040 ∷ 72057594037927937 ∷ [])) ∷ asked commit done ∷ asked (truncation 0 80) (truncated keep) ∷
     asked (truncation 14 80) (truncated keep) ∷ asked (ask counters) (counts_from ((0, 4, 0) ∷ (1, 2, 0) ∷ (15, 1, 0) ∷ []) 4 0 3 0) ∷
     denied (defrag_of (fin false 0 (pos 0)) 6) 14 0 ∷ asked new_id (gave 4) ∷ asked new_id (gave 5) ∷
@@ -310,12 +314,12 @@ sample8 =
     asked (defrag_of (fin false 1 (negsuc 148)) 6) (moves []) ∷ asked new_id (gave 6) ∷ denied (lookup_of 18446744073709551615) 8 0 ∷
     denied (defrag_of (fin true 1 (negsuc 0)) 6) 14 0 ∷
     denied (offer_of (0 ∷ 3 ∷ []) (true ∷ true ∷ []) (3 ∷ 106 ∷ []) (plain 217020518514229248 ∷ plain 217020518514229251 ∷ [])) 8 0 ∷
-    asked (ask counters) (counts_from ((0, 7, 0) ∷ (1, 2, 0) ∷ (15, 1, 0) ∷ []) 7 0 3 0) ∷ asked (offer_of (2 ∷ 4 ∷ 6 ∷ []) (false ∷ false ∷ false ∷ []) (0 ∷ 0 ∷
-    0 ∷ []) (plain 289360691352305666 ∷ plain 289360691352305668 ∷ plain 289360691352305670 ∷ [])) (placed (0 ∷ 0 ∷ 0 ∷ [])) ∷ asked commit done ∷
+    asked (ask counters) (counts_from ((0, 7, 0) ∷ (1, 2, 0) ∷ (15, 1, 0) ∷ []) 7 0 3 0) ∷ asked (offer_of (2 ∷ 4 ∷ 6 ∷ []) (false ∷ false ∷ false ∷ []) (0 ∷
+    0 ∷ 0 ∷ []) (plain 289360691352305666 ∷ plain 289360691352305668 ∷ plain 289360691352305670 ∷ [])) (placed (0 ∷ 0 ∷ 0 ∷ [])) ∷ asked commit done ∷
     asked (truncation 0 80) (truncated keep) ∷ asked (truncation 14 80) (truncated keep) ∷
     asked (offer_of (1 ∷ []) (true ∷ []) (662 ∷ []) (plain 361700864190382081 ∷ [])) (placed (1080863910568919041 ∷ [])) ∷ asked commit done ∷
-    asked (truncation 0 80) (truncated keep) ∷ asked (truncation 14 80) (truncated keep) ∷ asked (offer_of (1 ∷ 3 ∷ 5 ∷ []) (false ∷ true ∷ true ∷ []) (0 ∷ 662 ∷
-    106 ∷ []) (keyed 434041037028458497 2 (82 ∷ 215 ∷ []) ∷ plain 434041037028458499 ∷ plain 434041037028458501 ∷ [])) (placed (0 ∷ 1080863910568919042 ∷
+    asked (truncation 0 80) (truncated keep) ∷ asked (truncation 14 80) (truncated keep) ∷ asked (offer_of (1 ∷ 3 ∷ 5 ∷ []) (false ∷ true ∷ true ∷ []) (0 ∷
+    662 ∷ 106 ∷ []) (keyed 434041037028458497 2 (82 ∷ 215 ∷ []) ∷ plain 434041037028458499 ∷ plain 434041037028458501 ∷ [])) (placed (0 ∷ 1080863910568919042 ∷
     288230376151711744 ∷ [])) ∷ asked commit done ∷ asked (truncation 0 80) (truncated keep) ∷ asked (truncation 3 80) (truncated keep) ∷
     asked (truncation 14 80) (truncated keep) ∷ asked release done ∷
     asked (ask counters) (counts_from ((0, 7, 4) ∷ (1, 2, 2) ∷ (4, 1, 0) ∷ (15, 3, 2) ∷ []) 7 4 6 4) ∷ denied (defrag_of (inf false) 6) 14 0 ∷

@@ -2,6 +2,8 @@
 use crate::{numbers, slots, snapshots};
 use replay_words::tally::Tally;
 use replay_words::{file, line};
+use std::io;
+use std::rt::Files;
 
 const CLASS: u64 = 1;
 
@@ -42,21 +44,22 @@ fn agrees(line: &[u8]) -> bool {
     }
 }
 
-fn each_line(name: &[u8], text: &[u8]) -> Tally {
+fn each_line(rt: &impl Print, name: &[u8], text: &[u8]) -> io::Result<Tally> {
     let mut tally = Tally::new();
     let mut at = 0;
     while at < text.len() {
         let left = &text[at..];
         let n = line::bytes(left);
         let line = &left[0..n];
-        tally = tally.with_line(name, line, agrees(line));
+        tally = tally.with_line(rt, name, line, agrees(line))?;
         at += n;
     }
-    tally
+    Ok(tally)
 }
 
-pub fn file(name: &[u8]) {
+pub fn file(rt: &(impl Files + Print + Eprint), name: &[u8]) -> io::Result<()> {
     let mut space = file::space();
-    let n = file::load(name, &mut space);
-    each_line(name, &space[..n]).say(name);
+    let n = file::load(rt, name, &mut space)?;
+    each_line(rt, name, &space[..n])?.say(rt, name)?;
+    Ok(())
 }

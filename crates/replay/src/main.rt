@@ -4,14 +4,17 @@
 //
 // oracle/replay_data makes data/ of oracle/answers/*.txt, and stdout by counting there. The words of a line are in oracle/answers/README.md.
 #![tactic(auto)]
+
 mod calls;
 mod numbers;
 mod said;
 mod slots;
 mod snapshots;
 
-fn main() {
-    calls::file(b"leaves.words");
-    calls::file(b"cutoffs.words");
-    calls::file(b"snapshots.words");
+use std::io;
+
+fn main(rt: HostRuntime) -> io::Result<()> {
+    calls::file(&rt, b"leaves.words")?;
+    calls::file(&rt, b"cutoffs.words")?;
+    calls::file(&rt, b"snapshots.words")
 }

@@ -47,7 +47,7 @@ fn put_ramp(out: &mut [u8], seed: u8, step: u8) {
     let mut i = 0;
     while i < out.len() {
         out[i] = b;
-        b = std::num::wrapping_add_u8(b, step);
+        b = b.wrapping_add(step);
         i += 1;
     }
 }

@@ -7,6 +7,8 @@ use address::SlabAddress;
 use carried::WIDTH;
 use replay_words::tally::Tally;
 use replay_words::{file, line};
+use std::io;
+use std::rt::Files;
 use tables::{BATCH_WORDS, MOST_UPDATES, TALLY_WORDS};
 
 // The most slots that the 78 slabs of a store have.
@@ -42,7 +44,7 @@ fn capacity(line: &[u8], k: usize, now: usize) -> usize
     }
 }
 
-fn each_line(name: &[u8], text: &[u8]) -> Tally {
+fn each_line(rt: &impl Print, name: &[u8], text: &[u8]) -> io::Result<Tally> {
     let mut id_marks = [ANY_MARK; MOST];
     let mut locations = columns::column();
     let mut slot_marks = slot_marks();
@@ -74,14 +76,15 @@ fn each_line(name: &[u8], text: &[u8]) -> Tally {
             &mut carried[0..rows],
             line,
         );
-        tally = tally.with_line(name, line, agrees);
+        tally = tally.with_line(rt, name, line, agrees)?;
         at = next;
     }
-    tally
+    Ok(tally)
 }
 
-pub fn file(name: &[u8]) {
+pub fn file(rt: &(impl Files + Print + Eprint), name: &[u8]) -> io::Result<()> {
     let mut space = file::space();
-    let n = file::load(name, &mut space);
-    each_line(name, &space[..n]).say(name);
+    let n = file::load(rt, name, &mut space)?;
+    each_line(rt, name, &space[..n])?.say(rt, name)?;
+    Ok(())
 }

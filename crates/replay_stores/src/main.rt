@@ -5,6 +5,7 @@
 //
 // data/ and stdout are made by oracle/replay_data. The words of a line are in oracle/answers/README.md.
 #![tactic(auto)]
+
 mod allocators;
 mod batches;
 mod columns;
@@ -16,8 +17,10 @@ mod pokes;
 mod reads;
 mod reasons;
 
-fn main() {
-    history::file(b"stores.words");
-    history::file(b"files.words");
-    history::file(b"tables.words");
+use std::io;
+
+fn main(rt: HostRuntime) -> io::Result<()> {
+    history::file(&rt, b"stores.words")?;
+    history::file(&rt, b"files.words")?;
+    history::file(&rt, b"tables.words")
 }

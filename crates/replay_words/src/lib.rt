@@ -6,6 +6,7 @@
 //
 // For the programs `replay` and `replay_stores`, which make each call on the exported library and compare.
 #![tactic(auto)]
+
 pub mod file;
 pub mod line;
 pub mod ratios;

@@ -1,9 +1,9 @@
 // How many calls and differences a file has, and how many of the answers are the Rust's.
-ghost use Rattle.std.specs.Prelude.{◌≡◌};
+ghost use Rattle.std.specs.Prelude.{◌≡◌, IfOk};
 ghost use Rattle.replay_words.specs.Tallies.{more, nothing, tally_with};
 
 use crate::line;
-use libc::STDOUT_FILENO;
+use std::io;
 
 #[derive(Clone, Copy)]
 pub struct Tally {
@@ -24,23 +24,25 @@ fn more(n: u64, is_more: bool) -> u64
     if n < 18446744073709551615 { n + 1 } else { n }
 }
 
-fn text(words: &[u8]) {
-    io::write_all(STDOUT_FILENO, words);
-}
-
-fn count(n: u64, words: &[u8]) {
-    text(b" ");
-    io::print_decimal(STDOUT_FILENO, n);
-    text(words);
+fn count(rt: &impl Print, n: u64, words: &[u8]) -> io::Result<()> {
+    print!(rt; " {n}")?;
+    rt.write_all(words)
 }
 
 // Names a line that differs, after so many others.
-fn name_difference(name: &[u8], line: &[u8], others: u64, agrees: bool) {
+fn name_difference(
+    rt: &impl Print,
+    name: &[u8],
+    line: &[u8],
+    others: u64,
+    agrees: bool,
+) -> io::Result<()> {
     if !agrees && others < NAMED {
-        text(name);
-        text(b": line");
-        count(line::number(line), b" of its list differs\n");
+        rt.write_all(name)?;
+        rt.write_all(b": line")?;
+        count(rt, line::number(line), b" of its list differs\n")?;
     }
+    Ok(())
 }
 
 impl Tally {
@@ -55,27 +57,33 @@ impl Tally {
     }
 
     // One more line of the file of this name.
-    pub fn with_line(self, name: &[u8], line: &[u8], agrees: bool) -> Tally
-        ensures { result ≡ tally_with self line.now agrees }
+    pub fn with_line(
+        self,
+        rt: &impl Print,
+        name: &[u8],
+        line: &[u8],
+        agrees: bool,
+    ) -> io::Result<Tally>
+        ensures { IfOk result (λ tally. tally ≡ tally_with self line.now agrees) }
     {
-        name_difference(name, line, self.differences, agrees);
+        name_difference(rt, name, line, self.differences, agrees)?;
         let source = line::source(line);
-        Tally {
+        Ok(Tally {
             calls: more(self.calls, source != line::NO_CALL),
             rusts: more(self.rusts, source == line::RUST),
             differences: more(self.differences, !agrees),
-        }
+        })
     }
 
     // Says them, and answers how many differences there are.
-    pub fn say(self, name: &[u8]) -> u64
-        ensures { result ≡ self.differences }
+    pub fn say(self, rt: &impl Print, name: &[u8]) -> io::Result<u64>
+        ensures { IfOk result (λ n. n ≡ self.differences) }
     {
-        text(name);
-        text(b":");
-        count(self.calls, b" calls compared,");
-        count(self.rusts, b" of the answers the Rust's,");
-        count(self.differences, b" differences\n");
-        self.differences
+        rt.write_all(name)?;
+        rt.write_all(b":")?;
+        count(rt, self.calls, b" calls compared,")?;
+        count(rt, self.rusts, b" of the answers the Rust's,")?;
+        count(rt, self.differences, b" differences\n")?;
+        Ok(self.differences)
     }
 }

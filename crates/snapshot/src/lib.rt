@@ -12,6 +12,7 @@
 // A step judges the whole block that it reads from, so that a position of any origin is legal. Where the whole file is wanted,
 // snapshot_lists judges each block once.
 #![tactic(auto)]
+
 ghost use Rattle.std.specs.Prelude.{◌≡◌, ◌+◌, ◌<◌, ◌≤◌, ◌^◌};
 ghost use Rattle.snapshot_blocks.specs.declared.Row.{Row};
 ghost use Rattle.snapshot_blocks.specs.Blocks.{count_in, version_in};

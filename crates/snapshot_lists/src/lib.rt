@@ -8,6 +8,7 @@
 // What a row carries is written as a rebuild takes it: the collection, the key's length in eight bytes, and the key, filled with zeros to 64 bytes. The
 // blocks of a file that is right are all of the version of the first, which says how wide a row is and how many fit a block.
 #![tactic(auto)]
+
 ghost use Rattle.std.specs.Prelude.{◌++◌, ◌≡◌, true, false, cond, ℕ, ◌+◌, ◌-◌, ◌*◌, ◌/◌, ◌%◌, ◌^◌, ◌≤◌, ◌<◌, ltb, length, set, take, drop, replicate};
 ghost use Rattle.little_endian.specs.LittleEndian.{bytes_of, get_at};
 ghost use Rattle.carried.specs.Carried.{width, put_row};
