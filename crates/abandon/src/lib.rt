@@ -8,6 +8,7 @@
 // Batches that no offer made are legal input: an update whose id or location is out of range gives 13, and a slot that is there
 // twice is given back twice.
 #![tactic(auto)]
+
 ghost use Rattle.std.specs.Prelude.{false, ◌≡◌, ◌*◌, pred, length, get_or};
 ghost use Rattle.address.specs.Address.{bad_slots, slabs};
 ghost use Rattle.model.specs.Store.{abandon, finished_answer};

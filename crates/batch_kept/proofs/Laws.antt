@@ -11,16 +11,12 @@ use lib.Dec.{ltb, eqb, eqb-suc-zero}
 use lib.ListN.{length, get_or, take, drop, length-take, length-drop}
 use lib.Seq.{drop-cons, get_or-take, get_or-drop}
 use borrow.Author.Tests.{ne_eqb, lt-ltb, le-ltb, ltb-false}
-use types.Run.{OneOf}
-use denote.Enum.Declared.{tag_of}
-use mathlib.Core.Logic.{⊎_elim}
 use Rattle.refusal.specs.Refusals.{refusal, no_batch, tables_disagree}
 use Rattle.refusal.specs.declared.Refusal.{Refusal}
 use Rattle.refusal.proofs.Tests.{by_test}
 use Rattle.address.specs.Address.{unit, is_location, bad_slots, unpacked}
 use Rattle.address.specs.declared.Unpacked.{Unpacked}
 use Rattle.address.specs.declared.Unpacked.TheVariants as U
-use Rattle.address.specs.contracts.Unpacked.{the_type}
 use Rattle.model.specs.Store.{Store, Row}
 use Rattle.model.specs.Verdict.{Verdict, ok, refuse, ◌⨾◌, test}
 use Rattle.model.specs.Tables.{most_updates, most_opened, pairs, kept, bad_location}

@@ -5,6 +5,7 @@
 //     // the updates 0 to n - 1: ids from tables::KEPT_IDS on, new locations from tables::KEPT_LOCATIONS on
 //     batch_kept::in_range(ids, slots, &batch, n)  // 13 with the index of the first of them that is out of range
 #![tactic(auto)]
+
 ghost use Rattle.std.specs.Prelude.{◌≡◌};
 ghost use Rattle.batch_kept.specs.Kept.{count_of, bad_kept, bad_kept_row, first_bad, kept_from, rows_as};
 

@@ -9,6 +9,7 @@
 // fail: what is written at a location that is none is written nowhere. An update takes a handful of loads and stores; only the
 // first that makes a number of an allocator pending since its last release passes over the allocator's marks.
 #![tactic(auto)]
+
 mod check;
 
 ghost use Rattle.std.specs.Prelude.{false, ◌≡◌, ◌+◌, ◌*◌, ◌<◌, ◌≤◌, length, get_or};

@@ -10,6 +10,7 @@
 // Rows past the count keep what they held. One pass over the slots between a slab's cutoff and its tip; the marks of a slab are
 // counted, not walked.
 #![tactic(auto)]
+
 ghost use Rattle.std.specs.Prelude.{◌≡◌, ◌&&◌, suc, eqb};
 ghost use Rattle.model.specs.Store.{ask, defrag};
 ghost use Rattle.model.specs.Lending.{move_tables};

@@ -1,6 +1,6 @@
 -- A lookup in what the code reads: its lengths, then one id, one location and one row. Assumes nothing.
 use mathlib.Core.Bool.{true, false, not, cond, ◌&&◌, ◌||◌}
-use mathlib.Core.List.{List, [], ◌∷◌, ◌++◌, append-nil}
+use mathlib.Core.List.{List, [], ◌++◌, append-nil}
 use mathlib.Core.Path.{◌≡◌, refl, sym, ap, ◌∙◌}
 use Prim.Native.Nat.{ℕ, ◌+◌, ◌*◌, ◌≤◌, ◌<◌}
 use native.Mathlib.Nat.{zero-mul}
@@ -9,8 +9,6 @@ use lib.Dec.{eqb, ltb}
 use lib.ListN.{length, get_or, drop}
 use lib.Seq.{drop-length}
 use borrow.Author.Tests.{not-false, eqb-true, ltb-true, ne_eqb}
-use types.Run.{OneOf}
-use denote.Enum.Declared.{tag_of}
 use Rattle.refusal.specs.Outcomes.{granted, refused}
 use Rattle.refusal.specs.Refusals.{refusal, wrong_shape, no_such_id, tables_disagree}
 use Rattle.refusal.specs.declared.Refusal.{Refusal}
@@ -21,7 +19,6 @@ use Rattle.address.specs.Address.{unpacked}
 use Rattle.address.specs.declared.SlabAddress.{SlabAddress}
 use Rattle.address.specs.declared.Unpacked.{Unpacked}
 use Rattle.address.specs.declared.Unpacked.TheVariants as U
-use Rattle.address.specs.contracts.Unpacked.{the_type}
 use Rattle.address.proofs.Laws.{unpacked_at}
 use Rattle.carried.specs.Carried.{width, row_in, put_row}
 use Rattle.carried.proofs.Laws.{row_in_part, put_row_done}

@@ -9,6 +9,7 @@
 //
 // No table is written, and an open batch does not matter: what it stores is seen once it is committed.
 #![tactic(auto)]
+
 ghost use Rattle.std.specs.Prelude.{◌≡◌, cond, ◌&&◌, eqb, length, get_or};
 ghost use Rattle.refusal.specs.Refusals.{no_such_id, tables_disagree};
 ghost use Rattle.carried.specs.Carried.{width};

@@ -8,6 +8,7 @@
 //
 // Row i is what a lookup of asked[i] answers: none depends on another. The lengths are looked at once.
 #![tactic(auto)]
+
 ghost use Rattle.std.specs.Prelude.{◌≡◌, false, ◌&&◌, map, ◌*◌, ◌<◌, ◌≤◌, eqb, length, get_or};
 ghost use Rattle.refusal.specs.Outcomes.{finished_outcome};
 ghost use Rattle.address.specs.Address.{bad_slots, slabs};

@@ -34,7 +34,7 @@ counted_outcome_one =
       heap_slots_freed = get_or vs 3 0;
     }))
     C.Refused)
-    λ c. elim c as (λ k. (read_back (λ vs. C.Stats (record { objects_allocated = get_or vs 0 0; objects_freed = get_or vs 1 0; heap_slots_allocated = get_or vs 2 0; heap_slots_freed = get_or vs 3 0; })) C.Refused) (counted_outcome k) ≡ k) [ C.Stats z ↦ refl | C.Refused r ↦ refl ]
+    λ c. elim c as (λ k. (read_back (λ vs. C.Stats (record { objects_allocated = get_or vs 0 0; objects_freed = get_or vs 1 0; heap_slots_allocated = get_or vs 2 0; heap_slots_freed = get_or vs 3 0 })) C.Refused) (counted_outcome k) ≡ k) [ C.Stats z ↦ refl | C.Refused r ↦ refl ]
 
 pub counters_answer_outcome : (g f : List ℕ) (a : Counted) → outcome_of (counters_answer g f a) ≡ counted_outcome a
 counters_answer_outcome g f (C.Stats z) = refl

@@ -8,6 +8,7 @@
 //
 // A search starts at the hint, so that ids given out one after the other cost the same at every capacity.
 #![tactic(auto)]
+
 mod counts;
 mod new_id;
 

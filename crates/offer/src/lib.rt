@@ -12,6 +12,7 @@
 // What could refuse only reads (`offer_updates`, `keys`, `offer_room`); what is written comes after it and cannot fail (`offer_places`,
 // `keys`).
 #![tactic(auto)]
+
 ghost use Rattle.std.specs.Prelude.{◌≡◌, ◌&&◌, ◌||◌, [], eqb, ltb};
 ghost use Rattle.refusal.specs.Refusals.{key_too_long};
 ghost use Rattle.keys.specs.Keys.{stores_of};

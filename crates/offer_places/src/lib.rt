@@ -5,6 +5,7 @@
 //
 // Neither can fail: where a slab has no free slot the location is 0, and nothing is taken.
 #![tactic(auto)]
+
 ghost use Rattle.std.specs.Prelude.{◌≡◌, true, false, set};
 ghost use Rattle.std.proofs.lemmas.List.Edits.{sets};
 ghost use Rattle.address.specs.Address.{bad_slots, is_location};

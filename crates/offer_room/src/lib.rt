@@ -9,6 +9,7 @@
 // Whether a slab has slots enough is told by the searches that would take them where few are asked for, else by a count that ends when
 // there are enough.
 #![tactic(auto)]
+
 ghost use Rattle.std.specs.Prelude.{◌≡◌, ◌≤◌, ltb};
 ghost use Rattle.address.specs.Address.{slabs};
 ghost use Rattle.marks.specs.Marks.{is_free, count_if};

@@ -7,6 +7,7 @@
 //         Judged::Refused(refusal) => ..,  // its index is the update's
 //     }
 #![tactic(auto)]
+
 ghost use Rattle.std.specs.Prelude.{◌≡◌, false, [], ℕ, ◌+◌, ◌<◌, eqb, length, get_or};
 ghost use Rattle.std.proofs.lemmas.List.Edits.{sets};
 ghost use Rattle.list_parts.specs.Lists.{elem};

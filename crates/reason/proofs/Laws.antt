@@ -1,16 +1,14 @@
 -- A reason in what the code reads: the object of an id, then its slab, then the slot beside the line. Assumes nothing.
 use mathlib.Core.Bool.{Bool, true, false, not, cond, ◌&&◌}
-use mathlib.Core.List.{List, [], ◌∷◌}
+use mathlib.Core.List.{List}
 use mathlib.Core.Path.{◌≡◌, refl, sym, ap, ◌∙◌}
-use Prim.Native.Nat.{ℕ, suc, ◌+◌, ◌-◌, ◌/◌, ◌%◌, ◌≤◌, ◌<◌, pred}
+use Prim.Native.Nat.{ℕ, suc, ◌+◌, ◌/◌, ◌%◌, ◌≤◌, ◌<◌, pred}
 use native.Mathlib.Numerals.{add-one}
 use native.Mathlib.Omega.{arith}
 use lib.Dec.{eqb, ltb}
 use lib.ListN.{get_or, take}
 use lib.Ieee.{Float}
 use borrow.Author.Tests.{ne_eqb, lt-ltb, le-ltb}
-use types.Run.{OneOf}
-use denote.Enum.Declared.{tag_of}
 use Rattle.refusal.specs.Outcomes.{granted, refused_as}
 use Rattle.refusal.specs.Refusals.{refusal, wrong_shape, batch_open, tables_disagree, ratio_out_of_range}
 use Rattle.refusal.specs.declared.Refusal.{Refusal}
@@ -20,7 +18,6 @@ use Rattle.address.specs.Address.{unit, packing, unpacked, slabs, most_slots}
 use Rattle.address.specs.declared.SlabAddress.{SlabAddress}
 use Rattle.address.specs.declared.Unpacked.{Unpacked}
 use Rattle.address.specs.declared.Unpacked.TheVariants as U
-use Rattle.address.specs.contracts.Unpacked.{the_type}
 use Rattle.address.proofs.Laws.{unpacked_at}
 use Rattle.marks.specs.Marks.{count_if, is_taken, tip}
 use Rattle.marks.proofs.LawsCount.{live_le_tip}

@@ -10,6 +10,7 @@
 //
 // The standing is the object's slab and slot, how many smaller slots of the slab are held or pending, and the slab's live slots and tip. No table is written.
 #![tactic(auto)]
+
 ghost use Rattle.std.specs.Prelude.{◌≡◌, ◌<◌, take};
 ghost use Rattle.address.specs.Address.{slabs};
 ghost use Rattle.marks.specs.Marks.{count_if, is_taken};

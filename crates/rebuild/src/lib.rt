@@ -11,6 +11,7 @@
 //
 // Every word and byte of the seven tables is written, or none where the call is refused.
 #![tactic(auto)]
+
 ghost use Rattle.std.specs.Prelude.{◌≡◌, true, ◌&&◌, ◌*◌, eqb, ltb};
 ghost use Rattle.refusal.specs.Refusals.{key_too_long};
 ghost use Rattle.carried.specs.Carried.{width};

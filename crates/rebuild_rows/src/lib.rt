@@ -7,6 +7,7 @@
 // each of eight slabs, find the first repeated location before it. So no pass is quadratic, and no lent table is touched. The marks, 64 KiB,
 // are on the stack of one pass or of the others, never of both.
 #![tactic(auto)]
+
 ghost use Rattle.std.specs.Prelude.{◌≡◌, true, false, ◌<◌, ◌≤◌, length, get_or, replicate};
 ghost use Rattle.address.specs.Address.{bad_slots, is_location, most_slots};
 ghost use Rattle.model.specs.Rebuild.{rows_of};

@@ -8,6 +8,7 @@
 // An allocator whose waiting word is 0 has nothing pending and is passed over, so that the marks of a slab are only looked at
 // where something waits in it.
 #![tactic(auto)]
+
 ghost use Rattle.std.specs.Prelude.{◌≡◌, ◌*◌, length};
 ghost use Rattle.address.specs.Address.{slabs};
 ghost use Rattle.model.specs.Store.{release, finished_answer};

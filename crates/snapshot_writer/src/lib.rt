@@ -13,6 +13,7 @@
 // A row is a held id above 0 with a location; rows stand in the order of their ids. The ids are passed over three times: for the count,
 // for the check of locations, and for the blocks, of which each gathers its ids and is written from the tables at once.
 #![tactic(auto)]
+
 ghost use Rattle.std.specs.Prelude.{cond, ◌&&◌, ◌≡◌, map, ◌+◌, ◌-◌, ◌*◌, ◌/◌, ◌≤◌, ◌<◌, length, take, drop};
 ghost use Rattle.snapshot_blocks.specs.Formats.{version2};
 ghost use Rattle.snapshot_blocks.specs.Blocks.{entry_for};

@@ -2,16 +2,13 @@
 -- answer and write by that tip. Assumes nothing.
 use mathlib.Core.Path.{◌≡◌, refl, sym, ap, ◌∙◌}
 use mathlib.Core.Bool.{Bool, true, false, not, cond, ◌&&◌, ◌||◌}
-use mathlib.Core.List.{List, [], ◌∷◌}
-use mathlib.Core.Logic.{⊎_elim}
+use mathlib.Core.List.{List}
 use Prim.Native.Nat.{ℕ, zero, suc, ◌+◌, ◌-◌, ◌*◌, ◌/◌, ◌<◌, ◌≤◌, max, pred}
 use native.Mathlib.Nat.{mul-le-mul, div-mul-le_self}
 use native.Mathlib.Omega.{arith}
 use lib.Dec.{leb, ltb}
 use lib.ListN.{length, get_or}
 use lib.Seq.{get_or-drop}
-use types.Run.{OneOf}
-use denote.Enum.Declared.{tag_of}
 use borrow.Author.Tests.{leb-true, leb-false, not-true, not-false, lt-ltb, le-ltb, le-leb, lt-leb}
 use Rattle.refusal.specs.Outcomes.{granted, refused}
 use Rattle.refusal.specs.Refusals.{wrong_shape, out_of_range, batch_open, ratio_out_of_range, nothing_to_cut}
@@ -36,7 +33,6 @@ use Rattle.model.proofs.Verdicts.{test_ok, first_ok, then_ok, assoc}
 use Rattle.truncation.specs.Truncations.{truncated_answer}
 use Rattle.truncation.specs.declared.Truncated.{Truncated}
 use Rattle.truncation.specs.declared.Truncated.TheVariants as T
-use Rattle.truncation.specs.contracts.Truncated.{the_type}
 
 -- ---- sizes
 size_range : ℕ → Bool
@@ -92,16 +88,14 @@ cut_at_tip k high t zero e = let z : ◌≡◌ {A = ℕ} 0 1 = cc in omega arith
 cut_at_tip k high t (suc top) e = omega arith
 
 -- what a `let .. else` on the answer tells of it
-pub is_cut : (c : Cut) (r : Truncated) → tag_of the_type r ≡ 1 → truncated_answer r ≡ granted (truncated c) → keeps c ≡ false
-is_cut (cut n b) r k e = refl
-is_cut keep T.Keep k e = absurd (omega arith)
-is_cut keep (T.Cut length back) k e = let z : ◌≡◌ {A = ℕ} 0 1 = cc in absurd (omega arith)
-is_cut keep (T.Refused r) k e = absurd (omega arith)
+pub is_cut : (c : Cut) (r : Truncated) (length back : ℕ) → r ≡ T.Cut length back → truncated_answer r ≡ granted (truncated c) → keeps c ≡ false
+is_cut (cut n b) r length back k e = refl
+is_cut keep r length back k e = let z : ◌≡◌ {A = ℕ} 0 1 = cc in absurd (omega arith)
 
-pub is_kept : (c : Cut) (r : Truncated) → OneOf (0 ∷ 2 ∷ []) (tag_of the_type r) → truncated_answer r ≡ granted (truncated c) → keeps c ≡ true
+pub is_kept : (c : Cut) (r : Truncated) → ((length back : ℕ) → r ≡ T.Cut length back → ⊥) → truncated_answer r ≡ granted (truncated c) → keeps c ≡ true
 is_kept keep r k e = refl
 is_kept (cut n b) T.Keep k e = let z : ◌≡◌ {A = ℕ} 0 1 = cc in absurd (omega arith)
-is_kept (cut n b) (T.Cut l d) k e = ⊎_elim (λ z. absurd (omega arith)) (λ z. absurd (omega arith)) k
+is_kept (cut n b) (T.Cut l d) k e = absurd (k l d refl)
 is_kept (cut n b) (T.Refused r) k e = let z : ◌≡◌ {A = ℕ} 0 1 = cc in absurd (omega arith)
 
 -- ---- the high mark

@@ -10,6 +10,7 @@
 //
 // The high mark is the Rust's `max_live_slot_since_last_truncation`: asking raises it to the slab's top slot, a report sets it there.
 #![tactic(auto)]
+
 ghost use Rattle.std.specs.Prelude.{◌≡◌, ◌*◌, ◌<◌, ◌≤◌, suc, max, ltb, length};
 ghost use Rattle.list_parts.specs.Parts.{part};
 ghost use Rattle.marks.specs.Marks.{tip};

@@ -1,6 +1,5 @@
 -- The loop's invariant: the bytes so far are those of the other slice. The measure is what is left. Assumes nothing.
 use mathlib.Core.Path.{refl, ◌∙◌}
-use Prim.Native.Nat.{◌-◌}
 use native.Mathlib.Omega.{arith}
 use lib.ListN.{get_or, length-set}
 use Rattle.carried.proofs.LawsCode.{copy_turn, copy_done}

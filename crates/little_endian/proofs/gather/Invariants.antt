@@ -1,5 +1,5 @@
 use mathlib.Core.Path.{◌≡◌}
-use Prim.Native.Nat.{◌-◌, ◌≤◌, min}
+use Prim.Native.Nat.{◌≤◌, min}
 use lib.ListN.{length, take, drop}
 use Rattle.little_endian.specs.LittleEndian.{word}
 use Rattle.little_endian.proofs.gather.Given as goal

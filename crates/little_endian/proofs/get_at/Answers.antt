@@ -1,10 +1,7 @@
 use mathlib.Core.Path.{◌∙◌}
-use mathlib.Core.Logic.{⊎_elim}
-use borrow.Author.Tests.{le-leb, lt-leb}
+use borrow.Author.Tests.{le-leb}
 use Rattle.little_endian.specs.LittleEndian.{get_at}
 use borrow.Author.Rules.{rules}
-use native.Mathlib.Omega.{arith}
-use Rattle.std.proofs.lemmas.Grind.{common_steps}
 use Rattle.little_endian.proofs.get_at.Goals as goal
 
 pub returns-then-end-bytes : goal.returns-then-end-bytes

@@ -2,7 +2,6 @@ use mathlib.Core.Path.{refl, ap}
 use Prim.Native.Nat.{ℕ, ◌%◌}
 use lib.ListN.{length-set}
 use mathlib.Core.Path.{sym, ◌∙◌}
-use Prim.Native.Nat.{◌-◌}
 use native.Mathlib.Omega.{arith}
 use Rattle.little_endian.specs.LittleEndian.{bytes_of}
 use Rattle.little_endian.proofs.Laws.{bytes_of_turn, bytes_of_done}

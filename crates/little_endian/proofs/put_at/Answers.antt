@@ -1,13 +1,11 @@
 use borrow.Author.Tests.{leb-true}
 use mathlib.Core.Path.{ap, ◌∙◌}
 use mathlib.Core.List.{List, ◌++◌}
-use mathlib.Core.Logic.{⊎_elim}
 use Prim.Native.Nat.{ℕ}
 use lib.ListN.{take, drop}
-use borrow.Author.Tests.{le-leb, lt-leb}
+use borrow.Author.Tests.{le-leb}
 use Rattle.list_parts.proofs.Ranges.{length_range, put_range}
 use Rattle.little_endian.specs.LittleEndian.{bytes_of, put_at}
-use borrow.Author.Rules.{rules}
 use native.Mathlib.Omega.{arith}
 use Rattle.std.proofs.lemmas.Grind.{common_steps}
 use Rattle.little_endian.proofs.put_at.Goals as goal

@@ -1,7 +1,5 @@
 -- `marks::count_part` meets its contract. The loop's invariant: what is counted, with the count of the rest, is the count of all. The measure
 -- is what is left of the slice. Assumes nothing.
-use mathlib.Core.Logic.{⊎_elim}
-use Prim.Native.Nat.{◌-◌}
 use native.Mathlib.Omega.{arith}
 use borrow.Author.Tests.{eq-eqb, ne_eqb}
 use Rattle.marks.specs.Turned.{is_mark}

@@ -1,8 +1,6 @@
 -- `marks::has` meets its contract. The loop's invariant: as long as none is found, all that there are lie ahead; once one is found, there is one.
 -- The measure is what is left of the slice. Assumes nothing.
 use mathlib.Core.Path.{sym, ◌∙◌}
-use mathlib.Core.Logic.{⊎_elim}
-use Prim.Native.Nat.{◌-◌}
 use native.Mathlib.Omega.{arith}
 use borrow.Author.Tests.{eq-eqb, ne_eqb}
 use Rattle.refusal.proofs.Tests.{clash}

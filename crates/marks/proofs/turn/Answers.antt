@@ -1,7 +1,7 @@
 -- `marks::turn` meets its contract. The loop's invariant: the marks passed are turned, the others as they were. The measure is what is left
 -- of the slice. Assumes nothing.
 use mathlib.Core.Path.{ap, ◌∙◌}
-use Prim.Native.Nat.{◌+◌, ◌-◌}
+use Prim.Native.Nat.{◌+◌}
 use native.Mathlib.Omega.{arith}
 use lib.ListN.{length}
 use Rattle.marks.specs.Turned.{turned}

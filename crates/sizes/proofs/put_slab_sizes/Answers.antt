@@ -1,7 +1,6 @@
 -- The table copied into a lent list. The invariant: writing what is left of the table over the present list is writing all of it over the one at
 -- entry; the measure is what is left. Assumes nothing.
 use mathlib.Core.Path.{◌≡◌, refl, sym, ap, ◌∙◌}
-use Prim.Native.Nat.{◌-◌}
 use native.Mathlib.Omega.{arith}
 use lib.ListN.{get_or, set, length-set}
 use borrow.Author.Tests.{eq-eqb, ne_eqb}

@@ -1,7 +1,7 @@
 -- The loop's invariant: all bytes are zero exactly if the blocks so far are and the bytes still to come are. The last block has all that are left
 -- then. The measure is what is left. Assumes nothing.
 use mathlib.Core.Path.{refl, ◌∙◌}
-use Prim.Native.Nat.{◌+◌, ◌-◌, ◌≤◌}
+use Prim.Native.Nat.{◌+◌, ◌≤◌}
 use native.Mathlib.Omega.{arith}
 use lib.ListN.{length}
 use Rattle.zeros.proofs.Laws.{all_zero_turn, all_zero_last}

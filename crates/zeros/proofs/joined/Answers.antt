@@ -1,7 +1,6 @@
 -- The loop's invariant: all bytes are zero exactly if the numbers so far are and the bytes still to come are. The measure is what is left.
 -- Assumes nothing.
 use mathlib.Core.Path.{refl, sym, ◌∙◌}
-use Prim.Native.Nat.{◌-◌}
 use native.Mathlib.Omega.{arith}
 use Rattle.zeros.proofs.Laws.{all_zero_get, length_turn, all_zero_turn, all_zero_end}
 use borrow.Author.Rules.{rules}

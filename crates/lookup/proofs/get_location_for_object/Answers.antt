@@ -1,0 +1,37 @@
+-- A lookup: each return is a law of what its tests told. Where a location is told, the lent row is written whole. Assumes nothing.
+use mathlib.Core.Path.{sym, ap, ◌∙◌}
+use Rattle.refusal.proofs.Tests.{and_true}
+use Rattle.model.specs.Lending.{row_tables}
+use Rattle.model.specs.Lent.{lent_by}
+use Rattle.model.proofs.Sizes.{fits_locations}
+use Rattle.carried.specs.Carried.{width, put_row}
+use Rattle.lookup.proofs.Laws.{answers_shape, answers_refused, answers_found}
+use Rattle.lookup.proofs.get_location_for_object.Goals as goal
+
+pub returns-then-not-fits : goal.returns-then-not-fits
+returns-then-not-fits c =
+    let a = c.args in
+    let m = lent_by row_tables a.caps.ids a.caps.slots a.id_marks.now a.locations.now a.slot_marks.now a.owners.now a.tallies.now a.carried.now in
+    rw c.of.ensures (let both = answers_shape m a.id a.row.now (sym c.fits.ensures ∙ c.if-not-fits.true) in
+    record { answers = both.0; leaves = both.1 })
+
+pub locate-requires : goal.locate-requires
+locate-requires c =
+    let a = c.args in
+    let m = lent_by row_tables a.caps.ids a.caps.slots a.id_marks.now a.locations.now a.slot_marks.now a.owners.now a.tallies.now a.carried.now in
+    fits_locations row_tables m (and_true _ _ (sym c.fits.ensures ∙ c.if-not-fits.false)).0
+
+pub returns-in-Refused : goal.returns-in-Refused
+returns-in-Refused c =
+    let a = c.args in
+    let m = lent_by row_tables a.caps.ids a.caps.slots a.id_marks.now a.locations.now a.slot_marks.now a.owners.now a.tallies.now a.carried.now in
+    let both = answers_refused m a.id a.row.now (sym c.fits.ensures ∙ c.if-not-fits.false) c.locate.result c.locate.ensures _ c.in-Refused.is in
+    record { answers = both.0; leaves = both.1 }
+
+pub returns-in-Location : goal.returns-in-Location
+returns-in-Location c =
+    let a = c.args in
+    let m = lent_by row_tables a.caps.ids a.caps.slots a.id_marks.now a.locations.now a.slot_marks.now a.owners.now a.tallies.now a.carried.now in
+    let both = answers_found m a.id a.row.now (sym c.fits.ensures ∙ c.if-not-fits.false) c.locate.result c.locate.ensures _ _ c.in-Location.is
+    (c.put_row.ensures ∙ ap (put_row width a.row.now 0) c.row.ensures) in
+    record { answers = both.0; leaves = both.1 }

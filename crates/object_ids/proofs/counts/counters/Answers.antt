@@ -1,0 +1,52 @@
+-- `object_ids::counters` meets its contract: the lists' lengths, then what `stats` answers; its answer tells whether the pairs are copied.
+-- Assumes nothing.
+use Rattle.std.proofs.Common.{sym, ap, ◌∙◌, arith}
+use Rattle.object_ids.specs.declared.counts.Counted.TheVariants as C
+use Rattle.model.specs.Tables.{allocators}
+use Rattle.model.specs.Outcomes.{list_in}
+use Rattle.object_ids.specs.Counts.{counters_answer, stats_answer}
+use Rattle.object_ids.proofs.LawsCounts.{counters_length, words_over, listed_first, listed_second, listed_both}
+use Rattle.object_ids.proofs.counts.counters.Goals as goal
+
+pub returns-then-granted-ne-ALLOCATORS : goal.returns-then-granted-ne-ALLOCATORS
+returns-then-granted-ne-ALLOCATORS c =
+    let g = c.args.granted.now in
+    let f = c.args.freed.now in
+    let r = sym (listed_first g f _ c.if-granted-ne-ALLOCATORS.true) in
+    record { result_after = (λ i. counters_answer g f (C.Refused (c.of.ensures i))) ∙ r; granted_after = ap (λ a. list_in 0 a g) r; freed_after = ap (λ a. list_in 1 a f) r }
+
+pub returns-then-freed-ne-ALLOCATORS : goal.returns-then-freed-ne-ALLOCATORS
+returns-then-freed-ne-ALLOCATORS c =
+    let g = c.args.granted.now in
+    let f = c.args.freed.now in
+    let r = sym (listed_second g f _ c.if-granted-ne-ALLOCATORS.false c.if-freed-ne-ALLOCATORS.true) in
+    record { result_after = (λ i. counters_answer g f (C.Refused (c.of-then-freed-ne-ALLOCATORS.ensures i))) ∙ r; granted_after = ap (λ a. list_in 0 a g) r; freed_after = ap (λ a. list_in 1 a f) r }
+
+pub copy_words-requires : goal.copy_words-requires
+copy_words-requires c =
+    let l = counters_length _ _ _ _ (sym (ap (stats_answer c.args.tallies.now) c.in-Stats.is) ∙ c.stats.ensures) in
+    (omega arith, c.if-granted-ne-ALLOCATORS.false)
+
+pub copy_words-requires-in-Stats : goal.copy_words-requires-in-Stats
+copy_words-requires-in-Stats c =
+    let l = counters_length _ _ _ _ (sym (ap (stats_answer c.args.tallies.now) c.in-Stats.is) ∙ c.stats.ensures) in
+    (omega arith, c.if-freed-ne-ALLOCATORS.false)
+
+pub returns-in-Stats : goal.returns-in-Stats
+returns-in-Stats c =
+    let g = c.args.granted.now in
+    let f = c.args.freed.now in
+    let t = c.args.tallies.now in
+    let e = sym (ap (stats_answer t) c.in-Stats.is) ∙ c.stats.ensures in
+    let l = counters_length _ _ _ _ e in
+    let long = c.if-granted-ne-ALLOCATORS.false in
+    let long-2 = c.if-freed-ne-ALLOCATORS.false in
+    let r = e ∙ sym (listed_both g f _ long long-2) in
+    record { result_after = (λ i. counters_answer (c.copy_words.ensures i) (c.copy_words-in-Stats.ensures i) (C.Stats c.in-Stats.stats)) ∙ r; granted_after = c.copy_words.ensures ∙ words_over t g 0 (omega arith) long ∙ ap (λ a. list_in 0 a g) r; freed_after = c.copy_words-in-Stats.ensures ∙ words_over t f allocators (omega arith) long-2 ∙ ap (λ a. list_in 1 a f) r }
+
+pub returns-in-Refused : goal.returns-in-Refused
+returns-in-Refused c =
+    let g = c.args.granted.now in
+    let f = c.args.freed.now in
+    let r = sym (ap (stats_answer c.args.tallies.now) c.in-Refused.is) ∙ c.stats.ensures ∙ sym (listed_both g f _ c.if-granted-ne-ALLOCATORS.false c.if-freed-ne-ALLOCATORS.false) in
+    record { result_after = r; granted_after = ap (λ a. list_in 0 a g) r; freed_after = ap (λ a. list_in 1 a f) r }

@@ -1,0 +1,14 @@
+-- `updates::kind` meets its contract: the slab is that of the class (classOf). Assumes nothing.
+use mathlib.Core.Bool.{not}
+use mathlib.Core.Path.{sym, ap, ◌∙◌}
+use Rattle.offer_updates.proofs.Laws.{kind_of_free, kind_of_slab, kind_of_none}
+use Rattle.offer_updates.proofs.kind.Goals as goal
+
+pub returns-then-not-store : goal.returns-then-not-store
+returns-then-not-store c = kind_of_free c.args.store c.args.length (ap not c.if-not-store.true)
+
+pub returns-in-Slab : goal.returns-in-Slab
+returns-in-Slab c = kind_of_slab c.args.store c.args.length _ (ap not c.if-not-store.false) (sym c.slab_for_size.ensures ∙ c.in-Slab.is)
+
+pub returns-in-Refused : goal.returns-in-Refused
+returns-in-Refused c = kind_of_none c.args.store c.args.length _ (ap not c.if-not-store.false) (sym c.slab_for_size.ensures ∙ c.in-Refused.is)

@@ -1,0 +1,29 @@
+-- `release::release` meets its contract: `granted` gives the answer, which tells whether anything is written; the ids' allocator, then the
+-- slabs, are the memory after a release (release-after). Assumes nothing.
+use mathlib.Core.Path.{refl, sym, ap, ◌∙◌}
+use Rattle.model.specs.Store.{finished_answer}
+use Rattle.model.proofs.Answered.{refused_after}
+use Rattle.model.specs.Lent.{lent_to}
+use Rattle.model.specs.Store as S
+use Rattle.release.proofs.Laws.{release_length, release_after}
+use Rattle.release.proofs.release.Goals as goal
+
+pub release_slabs-requires : goal.release_slabs-requires
+release_slabs-requires c =
+    let a = c.args in
+    let m = lent_to S.release a.caps.ids a.caps.slots a.id_marks.now a.slot_marks.now a.batch.now a.tallies.now in
+    release_length m (sym (ap finished_answer c.in-Done.is) ∙ c.granted.ensures)
+
+pub returns-in-Done : goal.returns-in-Done
+returns-in-Done c =
+    let a = c.args in
+    let m = lent_to S.release a.caps.ids a.caps.slots a.id_marks.now a.slot_marks.now a.batch.now a.tallies.now in
+    let e = sym (ap finished_answer c.in-Done.is) ∙ c.granted.ensures in
+    record { result_value = e; tallies_after = release_after m _ _ _ e c.release_allocator.ensures.0 c.release_allocator.ensures.1 c.release_slabs.ensures }
+
+pub returns-in-Refused : goal.returns-in-Refused
+returns-in-Refused c =
+    let a = c.args in
+    let m = lent_to S.release a.caps.ids a.caps.slots a.id_marks.now a.slot_marks.now a.batch.now a.tallies.now in
+    let e = sym (ap finished_answer c.in-Refused.is) ∙ c.granted.ensures in
+    record { result_value = e; tallies_after = sym (refused_after m _ _ e refl) }

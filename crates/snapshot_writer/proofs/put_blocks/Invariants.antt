@@ -1,0 +1,21 @@
+use mathlib.Core.Path.{◌≡◌}
+use mathlib.Core.List.{◌++◌, map}
+use Prim.Native.Nat.{◌-◌, ◌*◌, ◌≤◌}
+use lib.ListN.{length, take, drop}
+use Rattle.snapshot_blocks.specs.Formats.{version2}
+use Rattle.snapshot_blocks.specs.Blocks.{entry_for}
+use Rattle.snapshot_blocks.specs.Files.{file_of}
+use Rattle.model.specs.Snapshots.{those_from}
+use Rattle.snapshot_writer.specs.Writer.{stored_in}
+use Rattle.snapshot_writer.proofs.LawsBlocks.{rest}
+use Rattle.snapshot_writer.proofs.put_blocks.Given as goal
+
+abbrev pub invariant-loop-k : goal.invariant-loop-k
+invariant-loop-k l =
+    ((length l.file ≡ length l.initial.file) × ((l.k ≤ l.last) × (l.from ≤ l.ids)))
+    × ((those_from (stored_in l.ids l.id_marks l.locations l.tallies) (l.ids - l.from) l.from ≡ drop (5 * l.k) (those_from (stored_in l.ids l.id_marks l.locations l.tallies) l.ids 0))
+    × (take (512 * l.k) l.file ++ rest (entry_for 80 l.locations l.carried) (those_from (stored_in l.ids l.id_marks l.locations l.tallies) l.ids 0) l.last l.k
+    ≡ file_of version2 (map (entry_for 80 l.locations l.carried) (those_from (stored_in l.ids l.id_marks l.locations l.tallies) l.ids 0))))
+
+abbrev pub decreases-loop-k : goal.decreases-loop-k
+decreases-loop-k l = l.last - l.k
