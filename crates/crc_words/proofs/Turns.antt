@@ -1,7 +1,7 @@
 -- What a word that was read is put off to, and the turn that does it.
 -- Assumes nothing.
 use mathlib.Core.Path.{◌≡◌, refl, sym, ap, ap₂, ◌∙◌, subst}
-use Prim.Native.Nat.{ℕ, ◌+◌, ◌*◌, ◌/◌, ◌%◌, ◌^◌, ◌<◌}
+use Prim.Native.Nat.{ℕ, ◌+◌, ◌*◌, ◌/◌, ◌^◌, ◌<◌}
 use native.Mathlib.Nat.{add_assoc}
 use lib.Dec.{T}
 use lib.Bits.{bit_xor, xor_lt, xor_zero_r}
@@ -9,7 +9,7 @@ use Rattle.crc_steps.specs.Crc32.{step, steps}
 use Rattle.crc_words.specs.Fold.{up, over, num, Turn, fifth}
 use Rattle.crc_steps.proofs.Xor.{xor_assoc}
 use Rattle.crc_steps.proofs.Linear.{steps_xor, steps_add, steps_shift, steps_zero}
-use Rattle.crc_steps.proofs.Agree.{Lin, id, down, low, both, after, lin_steps, same, agree, falls, down_id, down_after, down_test, descend}
+use Rattle.crc_steps.proofs.Agree.{Lin, id, down, both, after, lin_steps, same, agree, falls, down_id, down_after, down_test, descend}
 use Rattle.crc_words.proofs.Shifts.{lup, above, over_xor, lin_fifth}
 
 -- the register after a word: the polynomial's inverse, as a series of powers, times the word, and the polynomial times the high half of that

@@ -28,7 +28,7 @@ pub fn wentuhoro_defrag(
     moved_locations: &mut [u64],
     count: &mut [u64],
 ) -> u64
-    ensures fact { ◌≡◌ {A = Exported} (record { status = result; lent = count.new })
+    ensures answers { ◌≡◌ {A = Exported} (record { status = result; lent = count.new })
         (exported 1 (outcome_of (answered (ask (defrag ratio moved_ids.old moved_locations.old)) ids slots
         locations.now
         slot_marks.now
@@ -92,13 +92,13 @@ pub fn wentuhoro_truncation(
     t: u64,
     cut: &mut [u64],
 ) -> u64
-    ensures fact { ◌≡◌ {A = Exported} (record { status = result; lent = cut.new })
+    ensures answers { ◌≡◌ {A = Exported} (record { status = result; lent = cut.new })
         (exported 3 (outcome_of (answered (truncation slab t) ids slots
         slot_marks.now
         batch.now
         tallies.old))
         cut.old) }
-    ensures fact_2 { ◌≡◌ {A = Memory} (lent_to (truncation slab t) ids slots
+    ensures tables_after { ◌≡◌ {A = Memory} (lent_to (truncation slab t) ids slots
         slot_marks.now
         batch.now
         tallies.new)
@@ -139,11 +139,11 @@ pub fn wentuhoro_cut_done(
     slab: u64,
     t: u64,
 ) -> u64
-    ensures value { result ≡ status_of (outcome_of (answered (report slab t) ids slots
+    ensures status { result ≡ status_of (outcome_of (answered (report slab t) ids slots
         slot_marks.now
         batch.now
         tallies.old)) }
-    ensures fact { ◌≡◌ {A = Memory} (lent_to (report slab t) ids slots
+    ensures tables_after { ◌≡◌ {A = Memory} (lent_to (report slab t) ids slots
         slot_marks.now
         batch.now
         tallies.new)

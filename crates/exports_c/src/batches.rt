@@ -26,7 +26,7 @@ pub extern "C" fn wentuhoro_offer(
     update_carried: &[u8],
     placed: &mut [u64],
 ) -> u64
-    ensures value { result ≡ status_of (outcome_of (answered (offer (record {
+    ensures status { result ≡ status_of (outcome_of (answered (offer (record {
       ids = update_ids.now;
       stores = stores_of stores.now;
       lengths = lengths.now;
@@ -40,7 +40,7 @@ pub extern "C" fn wentuhoro_offer(
         batch.old
         tallies.old
         carried.old)) }
-    ensures fact { ◌≡◌ {A = Memory} (lent_to (offer (record {
+    ensures tables_after { ◌≡◌ {A = Memory} (lent_to (offer (record {
       ids = update_ids.now;
       stores = stores_of stores.now;
       lengths = lengths.now;
@@ -115,7 +115,7 @@ pub extern "C" fn wentuhoro_commit(
     tallies: &mut [u64],
     carried: &mut [u8],
 ) -> u64
-    ensures value { result ≡ status_of (outcome_of (answered commit ids slots
+    ensures status { result ≡ status_of (outcome_of (answered commit ids slots
         id_marks.old
         locations.old
         slot_marks.old
@@ -123,7 +123,7 @@ pub extern "C" fn wentuhoro_commit(
         batch.old
         tallies.old
         carried.old)) }
-    ensures fact { ◌≡◌ {A = Memory} (lent_to commit ids slots
+    ensures tables_after { ◌≡◌ {A = Memory} (lent_to commit ids slots
         id_marks.new
         locations.new
         slot_marks.new
@@ -154,11 +154,11 @@ pub extern "C" fn wentuhoro_abandon(
     batch: &mut [u64],
     tallies: &mut [u64],
 ) -> u64
-    ensures value { result ≡ status_of (outcome_of (answered abandon ids slots
+    ensures status { result ≡ status_of (outcome_of (answered abandon ids slots
         slot_marks.old
         batch.old
         tallies.old)) }
-    ensures fact { ◌≡◌ {A = Memory} (lent_to abandon ids slots
+    ensures tables_after { ◌≡◌ {A = Memory} (lent_to abandon ids slots
         slot_marks.new
         batch.new
         tallies.new)
@@ -180,12 +180,12 @@ pub extern "C" fn wentuhoro_release(
     batch: &[u64],
     tallies: &mut [u64],
 ) -> u64
-    ensures value { result ≡ status_of (outcome_of (answered release ids slots
+    ensures status { result ≡ status_of (outcome_of (answered release ids slots
         id_marks.old
         slot_marks.old
         batch.now
         tallies.old)) }
-    ensures fact { ◌≡◌ {A = Memory} (lent_to release ids slots
+    ensures tables_after { ◌≡◌ {A = Memory} (lent_to release ids slots
         id_marks.new
         slot_marks.new
         batch.now

@@ -22,7 +22,7 @@ pub extern "C" fn wentuhoro_defrag(
     moved_locations: &mut [u64],
     count: &mut [u64],
 ) -> u64
-    ensures fact { ◌≡◌ {A = Exported} (record { status = result; lent = count.new })
+    ensures answers { ◌≡◌ {A = Exported} (record { status = result; lent = count.new })
         (exported 1 (outcome_of (answered (ask (defrag ratio moved_ids.old moved_locations.old)) ids slots
         locations.now
         slot_marks.now
@@ -79,13 +79,13 @@ pub extern "C" fn wentuhoro_truncation(
     t: u64,
     cut: &mut [u64],
 ) -> u64
-    ensures fact { ◌≡◌ {A = Exported} (record { status = result; lent = cut.new })
+    ensures answers { ◌≡◌ {A = Exported} (record { status = result; lent = cut.new })
         (exported 3 (outcome_of (answered (truncation slab t) ids slots
         slot_marks.now
         batch.now
         tallies.old))
         cut.old) }
-    ensures fact_2 { ◌≡◌ {A = Memory} (lent_to (truncation slab t) ids slots
+    ensures tables_after { ◌≡◌ {A = Memory} (lent_to (truncation slab t) ids slots
         slot_marks.now
         batch.now
         tallies.new)
@@ -113,11 +113,11 @@ pub extern "C" fn wentuhoro_cut_done(
     slab: u64,
     t: u64,
 ) -> u64
-    ensures value { result ≡ status_of (outcome_of (answered (report slab t) ids slots
+    ensures status { result ≡ status_of (outcome_of (answered (report slab t) ids slots
         slot_marks.now
         batch.now
         tallies.old)) }
-    ensures fact { ◌≡◌ {A = Memory} (lent_to (report slab t) ids slots
+    ensures tables_after { ◌≡◌ {A = Memory} (lent_to (report slab t) ids slots
         slot_marks.now
         batch.now
         tallies.new)

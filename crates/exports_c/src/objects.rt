@@ -18,13 +18,13 @@ pub extern "C" fn wentuhoro_new_id(
     tallies: &mut [u64],
     id: &mut [u64],
 ) -> u64
-    ensures fact { ◌≡◌ {A = Exported} (record { status = result; lent = id.new })
+    ensures answers { ◌≡◌ {A = Exported} (record { status = result; lent = id.new })
         (exported 1 (outcome_of (answered new_id ids slots
         id_marks.old
         batch.now
         tallies.old))
         id.old) }
-    ensures fact_2 { ◌≡◌ {A = Memory} (lent_to new_id ids slots
+    ensures tables_after { ◌≡◌ {A = Memory} (lent_to new_id ids slots
         id_marks.new
         batch.now
         tallies.new)
@@ -56,7 +56,7 @@ pub extern "C" fn wentuhoro_lookup(
     location: &mut [u64],
     row: &mut [u8],
 ) -> u64
-    ensures fact { ◌≡◌ {A = Exported} (record { status = result; lent = location.new })
+    ensures answers { ◌≡◌ {A = Exported} (record { status = result; lent = location.new })
         (exported 1 (outcome_of (answered (ask (lookup id row.old)) ids slots
         id_marks.now
         locations.now
@@ -107,7 +107,7 @@ pub extern "C" fn wentuhoro_counters(
     granted: &mut [u64],
     freed: &mut [u64],
 ) -> u64
-    ensures value { result ≡ status_of (outcome_of (listed granted.old freed.old
+    ensures status { result ≡ status_of (outcome_of (listed granted.old freed.old
         (answered (ask counters) ids slots
         tallies.now))) }
     ensures granted_after { granted.new ≡ list_in 0 (listed granted.old freed.old

@@ -47,7 +47,7 @@ pub extern "C" fn wentuhoro_snapshot_write(
     carried: &[u8],
     file: &mut [u8],
 ) -> u64
-    ensures value { result ≡ status_of (outcome_of (answered (ask (snapshot file.old)) ids slots
+    ensures status { result ≡ status_of (outcome_of (answered (ask (snapshot file.old)) ids slots
         id_marks.now
         locations.now
         slot_marks.now
@@ -94,7 +94,7 @@ pub extern "C" fn wentuhoro_snapshot_read(
     row_carried: &mut [u8],
     rows: &mut [u64],
 ) -> u64
-    ensures fact { ◌≡◌ {A = Exported} (record { status = result; lent = rows.new })
+    ensures answers { ◌≡◌ {A = Exported} (record { status = result; lent = rows.new })
         (exported 1
         (taken_outcome
         (read_into file.now row_ids.old row_locations.old row_carried.old).answer)

@@ -19,7 +19,7 @@ pub extern "C" fn wentuhoro_fresh(
     tallies: &mut [u64],
     carried: &mut [u8],
 ) -> u64
-    ensures value { result ≡ status_of (outcome_of (answered fresh ids slots
+    ensures status { result ≡ status_of (outcome_of (answered fresh ids slots
         id_marks.old
         locations.old
         slot_marks.old
@@ -27,7 +27,7 @@ pub extern "C" fn wentuhoro_fresh(
         batch.old
         tallies.old
         carried.old)) }
-    ensures fact { ◌≡◌ {A = Memory} (lent_to fresh ids slots
+    ensures tables_after { ◌≡◌ {A = Memory} (lent_to fresh ids slots
         id_marks.new
         locations.new
         slot_marks.new
@@ -65,7 +65,7 @@ pub extern "C" fn wentuhoro_rebuild(
     row_locations: &[u64],
     row_carried: &[u8],
 ) -> u64
-    ensures value { result
+    ensures status { result
         ≡ status_of (outcome_of (answered (rebuild (record { ids = row_ids.now; locations = row_locations.now; carried = row_carried.now }))
         ids slots
         id_marks.old
@@ -75,7 +75,7 @@ pub extern "C" fn wentuhoro_rebuild(
         batch.old
         tallies.old
         carried.old)) }
-    ensures fact { ◌≡◌ {A = Memory}
+    ensures tables_after { ◌≡◌ {A = Memory}
         (lent_to (rebuild (record { ids = row_ids.now; locations = row_locations.now; carried = row_carried.now }))
         ids slots
         id_marks.new

@@ -12,7 +12,6 @@ use borrow.Author.Tests.{lt-ltb, eqb-false, le-ltb}
 use Rattle.refusal.specs.Refusals.{tables_disagree, no_batch}
 use Rattle.refusal.proofs.Tests.{clash, all, contradiction}
 use Rattle.address.specs.Address.{is_location}
-use Rattle.id_allocator.specs.Written.{opened}
 use Rattle.fragmentation.proofs.LawsCut.{between}
 use Rattle.model.specs.Batches.{abandon_rows, bad_row, after_abandon, after_offer, taken_by, updates_in}
 use Rattle.model.specs.Columns.{offered_column}

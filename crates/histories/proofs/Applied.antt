@@ -14,7 +14,6 @@ use Rattle.list_parts.proofs.Lists.{elem_head, elem_tail, elem_cases}
 use Rattle.address.specs.Address.{is_location}
 use Rattle.model.specs.Store.{Row}
 use Rattle.model.specs.Tables.{slot_place, write, ids_of, locations_of}
-use Rattle.model.specs.Truncation.{keeps}
 use Rattle.model.proofs.Lists.{nz_lt, one_nz, set_each, set_cases}
 use Rattle.model.proofs.Locations.{is_location_nz, slot_place_inj}
 use Rattle.model.proofs.Writes.{write_same, write_other, length_write, write_each}

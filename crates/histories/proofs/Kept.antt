@@ -15,7 +15,6 @@ use Rattle.model.specs.Ids.{after_new_id, next_id, bump_pending, after_release}
 use Rattle.model.specs.Store.{Store, Row}
 use Rattle.model.specs.Tables.{slot_place, kept, most_updates, allocators, capacities, carried_bytes, location_of}
 use Rattle.model.specs.Lending.{lent_fit, sized}
-use Rattle.model.specs.Truncation.{keeps}
 use Rattle.model.proofs.Lists.{set_each, set_keeps}
 use Rattle.model.proofs.Writes.{length_bump, length_write}
 use Rattle.histories.specs.Invariant.{KeptRows, Good, Inv}

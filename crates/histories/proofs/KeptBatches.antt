@@ -14,12 +14,10 @@ use Rattle.list_parts.specs.Lists.{elem}
 use Rattle.list_parts.proofs.Lists.{elem_cases, elem_tail, elem_head}
 use Rattle.address.specs.Address.{is_location, slabs}
 use Rattle.marks.specs.Marks.{is_held}
-use Rattle.fragmentation.proofs.LawsCut.{one}
 use Rattle.model.specs.Batches.{place, spot_for, id_of, updates, after_offer, taken_by, after_abandon}
 use Rattle.model.specs.Store.{Update, Store, Row}
 use Rattle.model.specs.Lending.{every_table}
 use Rattle.model.specs.Tables.{write, slot_place, most_updates, held_id, in_ids, pairs, ids_of, locations_of, kept, write_all, location_of}
-use Rattle.model.specs.Truncation.{keeps}
 use Rattle.model.specs.Verdict.{ok}
 use Rattle.model.proofs.Batches.{spot_for_is, length_place, length_bump_each, length_use_each}
 use Rattle.model.proofs.Sizes.{Sizes, sized_sizes}

@@ -18,7 +18,6 @@ use Rattle.model.specs.Rebuild.{rows, held_by, located_by, owned_by, rebuilt}
 use Rattle.model.specs.Store.{Store, Row}
 use Rattle.model.specs.Tables.{carried_bytes, slot_place, write, in_ids, ids_of, locations_of, write_all, allocators, capacities}
 use Rattle.model.specs.Lending.{lent_fit, sized}
-use Rattle.model.specs.Truncation.{keeps}
 use Rattle.model.specs.Verdict.{ok}
 use Rattle.model.proofs.Batches.{length_use_each}
 use Rattle.model.proofs.Sizes.{capacities_range}

@@ -21,7 +21,6 @@ use Rattle.carried.specs.Carried.{width, put_rows}
 use Rattle.carried.proofs.Laws.{length_put_rows, put_rows_own}
 use Rattle.address.specs.Address.{packing, is_location, slabs}
 use Rattle.marks.specs.Marks.{is_held}
-use Rattle.id_allocator.specs.Written.{opened}
 use Rattle.model.specs.Columns.{rebuilt_column}
 use Rattle.model.specs.Rebuild.{rows, columns, held_by, located_by, rebuilt, fresh_store}
 use Rattle.model.specs.Lending.{every_table, sized}

@@ -12,7 +12,6 @@ use Rattle.refusal.specs.Refusals.{batch_open, no_batch, tables_disagree, no_suc
 use Rattle.list_parts.specs.Lists.{elem}
 use Rattle.address.specs.Address.{is_location, slabs}
 use Rattle.marks.specs.Marks.{is_held, first_free}
-use Rattle.id_allocator.specs.Written.{opened}
 use Rattle.snapshot_blocks.specs.Formats.{version2}
 use Rattle.snapshot_blocks.specs.Files.{file_length}
 use Rattle.carried.specs.Carried.{width}

@@ -16,7 +16,6 @@ use Rattle.snapshot_blocks.specs.Files.{file_of, file_length}
 use Rattle.carried.specs.Carried.{width}
 use Rattle.carried.proofs.Laws.{Carry}
 use Rattle.marks.specs.Marks.{hold, let_go}
-use Rattle.id_allocator.specs.Written.{opened}
 use Rattle.model.specs.Batches.{apply_row, apply_rows, after_offer, id_of, after_commit, after_abandon, updates_in}
 use Rattle.model.specs.Ids.{after_new_id, next_id, after_release}
 use Rattle.model.specs.Columns.{rebuilt_column}

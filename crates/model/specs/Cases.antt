@@ -9,9 +9,7 @@ use Rattle.sizes.specs.declared.Class.{Class}
 use Rattle.sizes.specs.declared.Class.TheVariants.{Slab, Refused}
 use Rattle.carried.specs.Carried.{width}
 use Rattle.address.specs.Address.{most_slots, packing, packed, unpacked}
-use Rattle.address.specs.declared.Packed.{Packed}
 use Rattle.address.specs.declared.Packed.TheVariants.{Location}
-use Rattle.address.specs.declared.Unpacked.{Unpacked}
 use Rattle.address.specs.declared.Unpacked.TheVariants.{At}
 use Rattle.fragmentation.specs.Answer.{cutoff_of}
 use Rattle.fragmentation.specs.declared.Cutoff.{Cutoff}

@@ -22,7 +22,7 @@ const SLOTS: usize = SlabAddress::MOST_SLOTS;
 // Its length is said besides, so that a caller need not open the definition of so long a list.
 fn space() -> [u8; LONGEST]
     ensures value { result ≡ zeros }
-    ensures value_2 { 6710785 ≡ length result }
+    ensures len { 6710785 ≡ length result }
 {
     [0; LONGEST]
 }

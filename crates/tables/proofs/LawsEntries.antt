@@ -1,9 +1,7 @@
 -- One id and one slot: what the tables say is what the model says of the store that they stand for. Assumes nothing.
-use Rattle.std.proofs.Common.{◌≡◌, ℕ, zero, suc, pred, ◌+◌, ◌-◌, ◌*◌, ◌/◌, ◌%◌, ◌<◌, ◌≤◌, false, not, ◌&&◌, eqb, ltb, List, [], ◌∷◌, length, get_or, take, drop, sym, refl, ap, ◌∙◌, ⊎_elim, mul-le-mul, arith, drop_of_length-le, lt-ltb}
+use Rattle.std.proofs.Common.{◌≡◌, ℕ, zero, suc, pred, ◌+◌, ◌-◌, ◌*◌, ◌/◌, ◌%◌, ◌<◌, ◌≤◌, false, not, ◌&&◌, eqb, ltb, List, [], length, get_or, take, drop, sym, refl, ap, ◌∙◌, mul-le-mul, arith, drop_of_length-le, lt-ltb}
 use lib.Dec.{eqb-suc-zero}
 use lib.Seq.{take-nil}
-use types.Run.{OneOf}
-use denote.Enum.Declared.{tag_of}
 use Rattle.refusal.specs.declared.Refusal.{Refusal}
 use Rattle.refusal.proofs.Tests.{by_test}
 use Rattle.list_parts.specs.Parts.{part}
@@ -12,7 +10,6 @@ use Rattle.address.specs.Address.{unit, is_location, bad_slots, unpacked, slabs}
 use Rattle.address.specs.declared.SlabAddress.{SlabAddress}
 use Rattle.address.specs.declared.Unpacked.{Unpacked}
 use Rattle.address.specs.declared.Unpacked.TheVariants as U
-use Rattle.address.specs.contracts.Unpacked.{the_type}
 use Rattle.address.proofs.Laws.{slots_range}
 use Rattle.id_allocator.specs.Counted.{hinted, quiet, counted}
 use Rattle.model.specs.Tables.{held_id, bad_at}

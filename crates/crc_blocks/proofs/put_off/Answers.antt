@@ -1,7 +1,7 @@
 -- `crc_blocks::put_off` meets its contract: what is left does not change from byte to byte.
 -- Assumes nothing.
 use mathlib.Core.Path.{◌≡◌, ap, ◌∙◌}
-use Prim.Native.Nat.{ℕ, ◌+◌, ◌-◌}
+use Prim.Native.Nat.{ℕ, ◌+◌}
 use native.Mathlib.Omega.{arith}
 use lib.ListN.{get_or, take, drop, set, length-set}
 use Rattle.crc_words.specs.Fold.{left}

@@ -1,7 +1,7 @@
 -- `crc_blocks::slide` meets its contract: below j stands what stood 2048 on, and from j on all is as it was.
 -- Assumes nothing.
 use mathlib.Core.Path.{refl}
-use Prim.Native.Nat.{ℕ, ◌+◌, ◌-◌}
+use Prim.Native.Nat.{ℕ, ◌+◌}
 use native.Mathlib.Nat.{not-suc-le-zero}
 use native.Mathlib.Omega.{arith}
 use lib.ListN.{get_or, length-set}

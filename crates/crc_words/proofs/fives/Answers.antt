@@ -1,7 +1,7 @@
 -- `crc_words::fives` meets its contract: what is left does not change from turn to turn.
 -- Assumes nothing.
 use mathlib.Core.Path.{refl, sym, ap, ◌∙◌}
-use Prim.Native.Nat.{ℕ, ◌-◌}
+use Prim.Native.Nat.{ℕ}
 use native.Mathlib.Omega.{arith}
 use lib.Bits.{bit_xor, xor_zero_r}
 use Rattle.crc_words.specs.Fold.{held, past, num, over, left}

@@ -1,6 +1,5 @@
 -- The invariant: the ids from i on are below exactly if all are. The measure is what is left of the list.
 use mathlib.Core.Path.{refl, sym, ◌∙◌}
-use Prim.Native.Nat.{◌-◌}
 use Rattle.snapshot_blocks.proofs.CanWrite.{below_next, below_not, below_done}
 use Rattle.snapshot_blocks.proofs.each_below.Goals as goal
 

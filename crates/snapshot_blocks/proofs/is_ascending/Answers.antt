@@ -1,7 +1,7 @@
 -- The invariant: from row i on the rows ascend above the row before exactly if all ascend, in every format of this width; the running start
 -- is as many rows on.
 use mathlib.Core.Path.{sym, ◌∙◌}
-use Prim.Native.Nat.{◌+◌, ◌-◌}
+use Prim.Native.Nat.{◌+◌}
 use native.Mathlib.Nat.{mul-one}
 use native.Mathlib.Omega.{arith}
 use Rattle.snapshot_blocks.proofs.Turns.{next_start, above_turn, above_not, above_done, above_first, ascending_none}

@@ -1,6 +1,5 @@
 -- The invariant: the first i rows stand after the head, and what follows is as it was. A turn is `laid_turn`.
 use mathlib.Core.Path.{refl}
-use Prim.Native.Nat.{◌-◌}
 use native.Mathlib.Omega.{arith}
 use lib.ListN.{get_or}
 use Rattle.snapshot_blocks.specs.Blocks.{entry_for, row_bytes}

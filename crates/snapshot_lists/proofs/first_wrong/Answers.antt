@@ -1,6 +1,5 @@
 -- The invariant: the first wrong block from here on is the first of all.
 use mathlib.Core.Path.{sym, ap, ◌∙◌}
-use Prim.Native.Nat.{◌-◌}
 use Rattle.snapshot_blocks.specs.Formats.{format_of}
 use Rattle.snapshot_lists.specs.Lists.{first_wrong}
 use Rattle.snapshot_lists.proofs.Turns.{minus_zero, first_wrong_turn, first_wrong_here, first_wrong_done}

@@ -1,7 +1,7 @@
 -- The invariant: the rows from p on, put into the lists as they are now, give what all rows give in the lists as they were. The row at p stands in its
 -- block, with its key, since every block is right.
 use mathlib.Core.Path.{refl, sym, ◌∙◌}
-use Prim.Native.Nat.{◌-◌, ◌<◌}
+use Prim.Native.Nat.{◌<◌}
 use native.Mathlib.Omega.{arith}
 use Rattle.snapshot_lists.specs.Lists.{total, format_in}
 use Rattle.snapshot_lists.proofs.Turns.{ids_start, locations_start, carried_start, ids_turn, locations_turn, carried_turn, ids_done, locations_done, carried_done}

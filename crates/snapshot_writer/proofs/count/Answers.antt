@@ -1,7 +1,6 @@
 -- `count` meets its contract. The loop's invariant: the rows counted, and those of the ids that are left, are all. The measure is the ids left.
 -- Assumes nothing.
 use mathlib.Core.Path.{◌∙◌}
-use Prim.Native.Nat.{◌-◌}
 use native.Mathlib.Omega.{arith}
 use Rattle.snapshot_writer.specs.Writer.{stored_in}
 use Rattle.snapshot_writer.proofs.LawsRows.{count_start, count_turn, count_done, after_le}

@@ -1,7 +1,6 @@
 -- `first_bad` meets its contract. The loop's invariant: what the rows of the ids left say, from the present row's index on, is what all rows say. The
 -- measure is the ids left. Assumes nothing.
 use mathlib.Core.Path.{◌∙◌}
-use Prim.Native.Nat.{◌-◌}
 use native.Mathlib.Omega.{arith}
 use Rattle.snapshot_writer.specs.Writer.{stored_in, not_own}
 use Rattle.snapshot_writer.proofs.LawsRows.{rows_start, rows_turn, rows_bad, rows_done, refused_row, after_le}

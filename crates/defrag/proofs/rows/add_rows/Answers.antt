@@ -1,7 +1,7 @@
 -- `defrag::rows::add_rows` meets its contract. The loop's invariant: the rows of the owners left, written from the present row on, complete what is to be written. The measure is how many owners are left. Assumes nothing.
 use lib.ListN.{get_or}
 use lib.Seq.{length-sets}
-use Prim.Native.Nat.{◌+◌, ◌-◌}
+use Prim.Native.Nat.{◌+◌}
 use mathlib.Core.Path.{ap, ◌∙◌}
 use lib.ListN.{length, drop}
 use native.Mathlib.Omega.{arith}

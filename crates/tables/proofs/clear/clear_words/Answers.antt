@@ -1,5 +1,5 @@
 -- `tables::clear_words` meets its contract. The loop's invariant: the entries passed are 0, the others as they were. The measure is what is left. Assumes nothing.
-use Rattle.std.proofs.Common.{◌+◌, ◌-◌, length, set, ap, ◌∙◌, arith, rules}
+use Rattle.std.proofs.Common.{◌+◌, length, set, ap, ◌∙◌, arith, rules}
 use Rattle.tables.proofs.Zeros.{length_cleared, cleared_turn, cleared_end}
 use borrow.Author.Rules.{rules}
 use Rattle.tables.proofs.clear.clear_words.Goals as goal

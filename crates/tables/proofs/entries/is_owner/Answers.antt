@@ -1,5 +1,5 @@
 -- The tests are those of `owns_in`; where there is no such slab or capacity no slot is held (ownsIn-none). Assumes nothing.
-use Rattle.std.proofs.Common.{sym, ◌∙◌, ⊎_elim, arith, le-ltb, lt-ltb}
+use Rattle.std.proofs.Common.{sym, ◌∙◌, arith, le-ltb, lt-ltb}
 use borrow.Author.Tests.{not-true, not-false}
 use Rattle.tables.proofs.LawsEntries.{owns_in_none, start_lt}
 use Rattle.tables.proofs.entries.is_owner.Goals as goal

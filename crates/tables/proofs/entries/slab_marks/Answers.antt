@@ -1,4 +1,4 @@
-use Rattle.std.proofs.Common.{◌≡◌, ℕ, ◌+◌, ◌-◌, ◌*◌, ◌≤◌, length, take, drop, sym, ap, ◌∙◌, ⊎_elim, arith, length-drop, drop_of_length-le, take_all, le-ltb, lt-ltb}
+use Rattle.std.proofs.Common.{◌≡◌, ℕ, ◌+◌, ◌-◌, ◌*◌, ◌≤◌, length, take, drop, sym, ap, ◌∙◌, arith, length-drop, drop_of_length-le, take_all, le-ltb, lt-ltb}
 use lib.Seq.{take-nil}
 use Rattle.list_parts.proofs.Ranges.{rest_part}
 use Rattle.tables.proofs.LawsEntries.{slab_part_none, slab_part_is, start_lt, end_part}

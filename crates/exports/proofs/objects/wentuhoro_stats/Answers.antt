@@ -1,0 +1,25 @@
+use mathlib.Core.Path.{refl, sym}
+use Rattle.object_ids.specs.Counts.{stats_answer}
+use Rattle.exports.proofs.Laws.{exported_short, told-exported}
+use Rattle.exports.proofs.objects.wentuhoro_stats.Goals as goal
+
+pub returns-then-sums-ne4 : goal.returns-then-sums-ne4
+returns-then-sums-ne4 c =
+    let lent = c.args.sums.now in
+    exported_short 4 lent _ c.if-sums-ne4.true
+
+pub returns-in-Stats : goal.returns-in-Stats
+returns-in-Stats c =
+    let a = c.args in
+    let lent = a.sums.now in
+    let h = c.if-sums-ne4.false in
+    let e = c.stats.ensures in
+    told-exported (stats_answer a.tallies.now) _ _ _ e c.in-Stats.is 4 lent _ _ h refl (sym c.four.ensures)
+
+pub returns-in-Refused : goal.returns-in-Refused
+returns-in-Refused c =
+    let a = c.args in
+    let lent = a.sums.now in
+    let h = c.if-sums-ne4.false in
+    let e = c.stats.ensures in
+    told-exported (stats_answer a.tallies.now) _ _ _ e c.in-Refused.is 4 lent _ _ h (sym c.status.ensures) refl
