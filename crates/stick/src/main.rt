@@ -38,7 +38,7 @@ fn zeroed(alloc: Global, n: usize) -> Result<Vec<u8>, AllocError>
 // Its length is said besides, so that a caller need not open the definition of so long a list.
 fn space(alloc: Global) -> Result<Vec<u8>, AllocError>
     ensures value { IfOk result (λ space. space.items ≡ zeros) }
-    ensures value_2 { IfOk result (λ space. 6710785 ≡ length space.items) }
+    ensures count { IfOk result (λ space. 6710785 ≡ length space.items) }
 {
     zeroed(alloc, LONGEST)
 }

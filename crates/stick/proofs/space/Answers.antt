@@ -6,5 +6,5 @@ pub returns-clause-value : goal.returns-clause-value
 unfolding zeros
 returns-clause-value c = c.zeroed.ensures.value
 
-pub returns-clause-value_2 : goal.returns-clause-value_2
-returns-clause-value_2 c = c.zeroed.ensures.count
+pub returns-clause-count : goal.returns-clause-count
+returns-clause-count c = c.zeroed.ensures.count
