@@ -74,19 +74,19 @@ none_taken : (n : ℕ) → count_if is_taken (replicate n 0) ≡ 0
 none_taken zero = refl
 none_taken (suc n) = none_taken n
 
-rows-small :
+rows_small :
     (s : Store) (t is ls : List ℕ) (i : ℕ) (rs : List Row) → length t ≡ s.ids → count_if is_taken t ≡ i
     → ((x : ℕ) → elem x is ≡ false → get_or t x 0 ≡ 0) → (ks : List Bool) → Small (suc s.ids) (rows_keyed s is ls i rs ks)
-rows-small s t is ls i [] e c f ks = small _ _ (omega arith) (omega arith)
-rows-small s t is ls i (r ∷ rs) e c f [] = small _ _ (omega arith) (omega arith)
-rows-small s t is ls i (r ∷ rs) e c f (long ∷ ks) =
+rows_small s t is ls i [] e c f ks = small _ _ (omega arith) (omega arith)
+rows_small s t is ls i (r ∷ rs) e c f [] = small _ _ (omega arith) (omega arith)
+rows_small s t is ls i (r ∷ rs) e c f (long ∷ ks) =
     let k : i < suc s.ids = omega (arith, count_if_le is_taken t) in
     small_then _ _ _ (small_test _ _ 8 i (omega arith) k) (λ in_range.
     small_then _ _ _ (small_test _ _ 9 i (omega arith) k) (λ new.
     small_then _ _ _ (small_test _ _ 3 i (omega arith) k) (λ at.
     small_then _ _ _ (small_test _ _ 16 i (omega arith) k) (λ free.
     small_then _ _ _ (small_test _ long 21 i (omega arith) k) (λ short.
-    rows-small s (set t r.0 1) (r.0 ∷ is) (r.1 ∷ ls) (suc i) rs (length-set t r.0 1 ∙ e) (one_more (test_ok _ 8 i in_range) (test_ok _ 9 i new)) (marked (test_ok _ 9 i new)) ks)))))
+    rows_small s (set t r.0 1) (r.0 ∷ is) (r.1 ∷ ls) (suc i) rs (length-set t r.0 1 ∙ e) (one_more (test_ok _ 8 i in_range) (test_ok _ 9 i new)) (marked (test_ok _ 9 i new)) ks)))))
   where
     one_more : not (in_ids s r.0) ≡ false → elem r.0 is ≡ false → count_if is_taken (set t r.0 1) ≡ suc i
     one_more p q =
@@ -209,7 +209,7 @@ rest_small s fresh ids = small _ _ (omega arith) (omega arith)
 rest_small s (rebuild rs) ids =
     small_first _ _ 1 _ (omega arith) (omega arith) (λ fit.
     wider (suc s.ids) 65537 _ (omega arith) (rebuilt_small s rs fit
-    (rows-small s (replicate s.ids 0) [] [] 0 (rows_in rs) (length-replicate {A = ℕ} s.ids 0) (none_taken s.ids) (λ x _. zeros s.ids x) _)))
+    (rows_small s (replicate s.ids 0) [] [] 0 (rows_in rs) (length-replicate {A = ℕ} s.ids 0) (none_taken s.ids) (λ x _. zeros s.ids x) _)))
 rest_small s (ask q) ids = ask_small s q ids
 rest_small s (truncation k t) ids = slab_small s k t
 rest_small s (report k t) ids = small_then _ _ _ (slab_small s k t) (λ _. small_test _ _ 17 0 (omega arith) (omega arith))

@@ -57,10 +57,10 @@ module _ {E : Type 0} (says : E → Values) (e e' : E) (o : Values) (p : says e 
   pub said_status : status_of (says e') ≡ status_of o
   said_status = ap status_of (sym (ap says q) ∙ p)
 
-  pub said-exported :
+  pub said_exported :
       (n : ℕ) (lent : List ℕ) (s : ℕ) (l : List ℕ) → length lent ≡ n → status_of (says e') ≡ s → values_in (says e') lent ≡ l
       → record { status = s; lent = l } ≡ exported n o lent
-  said-exported n lent s l h u v =
+  said_exported n lent s l h u v =
       let t : o ≡ says e' = sym p ∙ ap says q in
       exported_is n lent o s l h (ap status_of t ∙ u) (ap (λ (x : Values). values_in x lent) t ∙ v)
 
@@ -69,17 +69,17 @@ module _ {E : Type 0} (says : E → Answer) (e e' : E) (a : Answer) (p : says e 
   pub told_status : status_of (outcome_of (says e')) ≡ status_of (outcome_of a)
   told_status = said_status (λ (x : E). outcome_of (says x)) e e' (outcome_of a) (ap outcome_of p) q
 
-  pub told-exported :
+  pub told_exported :
       (n : ℕ) (lent : List ℕ) (s : ℕ) (l : List ℕ) → length lent ≡ n → status_of (outcome_of (says e')) ≡ s → values_in (outcome_of (says e')) lent ≡ l
       → record { status = s; lent = l } ≡ exported n (outcome_of a) lent
-  told-exported = said-exported (λ (x : E). outcome_of (says x)) e e' (outcome_of a) (ap outcome_of p) q
+  told_exported = said_exported (λ (x : E). outcome_of (says x)) e e' (outcome_of a) (ap outcome_of p) q
 
 -- a lookup's status and value do not depend on the row, which its other promise tells
-pub looked-exported :
+pub looked_exported :
     (r r' : Looked) (row left : List ℕ) (a : Answer) → row ≡ left → looked_answer r row ≡ a → r ≡ r' → (lent : List ℕ) (s : ℕ) (l : List ℕ) → length lent ≡ 1
     → status_of (outcome_of (looked_answer r' [])) ≡ s → values_in (outcome_of (looked_answer r' [])) lent ≡ l → record { status = s; lent = l } ≡ exported 1 (outcome_of a) lent
-looked-exported r r' row left a k p q lent s l h u v =
-    told-exported (λ (x : Looked). looked_answer x row) r r' a p q 1 lent s l h (ap status_of (any r') ∙ u) (ap (λ (x : Values). values_in x lent) (any r') ∙ v)
+looked_exported r r' row left a k p q lent s l h u v =
+    told_exported (λ (x : Looked). looked_answer x row) r r' a p q 1 lent s l h (ap status_of (any r') ∙ u) (ap (λ (x : Values). values_in x lent) (any r') ∙ v)
   where
     any : (x : Looked) → outcome_of (looked_answer x row) ≡ outcome_of (looked_answer x [])
     any (L.Location location) = refl
@@ -95,42 +95,42 @@ module _ {A : Type 0} (n : ℕ) (lent : List ℕ) (after before : A) where
   where_fits_short h = simp (ne_eqb (length lent) n h)
 
 -- an offer's status does not depend on the locations
-pub offered-status :
+pub offered_status :
     (o o' : Finished) (sm b t c ls : List ℕ) (w : Left)
     → record { answer = offered_answer o ls; slot_marks = sm; batch = b; tallies = t; carried = c; placed = ls } ≡ w → o ≡ o'
     → status_of (outcome_of (offered_answer o' [])) ≡ status_of (outcome_of w.answer)
-offered-status o o' sm b t c ls w e q = any o' ∙ told_status (λ (x : Finished). offered_answer x ls) o o' w.answer (ap (λ (x : Left). x.answer) e) q
+offered_status o o' sm b t c ls w e q = any o' ∙ told_status (λ (x : Finished). offered_answer x ls) o o' w.answer (ap (λ (x : Left). x.answer) e) q
   where
     any : (x : Finished) → status_of (outcome_of (offered_answer x [])) ≡ status_of (outcome_of (offered_answer x ls))
     any F.Done = refl
     any (F.Refused r) = refl
 
 -- nor does that of a snapshot on the file
-pub written-status :
+pub written_status :
     (o o' : Finished) (file : List ℕ) (w : Written.Left) → record { answer = written_answer o file; file = file } ≡ w → o ≡ o'
     → status_of (outcome_of (written_answer o' [])) ≡ status_of (outcome_of w.answer)
-written-status o o' file w e q = any o' ∙ told_status (λ (x : Finished). written_answer x file) o o' w.answer (ap (λ (x : Written.Left). x.answer) e) q
+written_status o o' file w e q = any o' ∙ told_status (λ (x : Finished). written_answer x file) o o' w.answer (ap (λ (x : Written.Left). x.answer) e) q
   where
     any : (x : Finished) → status_of (outcome_of (written_answer x [])) ≡ status_of (outcome_of (written_answer x file))
     any F.Done = refl
     any (F.Refused r) = refl
 
 -- a page's status is that of its outcome
-pub page-exported :
+pub page_exported :
     (o o' : Finished) (numbers locations carried : List ℕ) (l : Page.Left) (s : ℕ)
     → record { outcome = finished_outcome o; numbers = numbers; locations = locations; carried = carried } ≡ l → o ≡ o' → status_of (finished_outcome o') ≡ s
     → ◌≡◌ {A = ExportedPage} (record { status = s; numbers = numbers; locations = locations; carried = carried }) (exported_page l)
-page-exported o o' numbers locations carried l s e q u =
+page_exported o o' numbers locations carried l s e q u =
     (λ k. record { status = (sym u ∙ sym (ap (λ (x : Finished). status_of (finished_outcome x)) q)) k; numbers = numbers; locations = locations; carried = carried })
     ∙ ap exported_page e
 
 -- an offer changes four tables
-pub offer-memory :
+pub offer_memory :
     (m : Memory) (o : Offer) (sm b t c : List ℕ) → sm ≡ (memory_after m (offer o)).slot_marks
     → b ≡ (memory_after m (offer o)).batch → t ≡ (memory_after m (offer o)).tallies → c ≡ (memory_after m (offer o)).carried
     → carrying (with_kept (with_slots m (record { marks = sm; words = t })) b) c ≡ memory_after m (offer o)
 unfolding memory_after memory_effect
-offer-memory m o sm b t c p q r x =
+offer_memory m o sm b t c p q r x =
     (λ k. carrying (with_kept (with_slots m (record { marks = p k; words = r k })) (q k)) (x k)) ∙ go (refusal (read m) (offer o))
   where
     new : Memory

@@ -10,15 +10,15 @@ use Rattle.frame.specs.declared.Verdict.TheVariants as R
 abbrev pub IsWritten : List ℕ → List ℕ → Type 0
 IsWritten object slot = (before : List ℕ) × (writing before object ≡ record { answer = F.Done; slot = slot })
 
--- with the object named, the slot's own first bytes (accepted-named)
+-- with the object named, the slot's own first bytes (accepted_named)
 abbrev pub AcceptedNamed : Type 0
 AcceptedNamed = (slot : List ℕ) → Bytes slot → (n : ℕ) → (verdict_of slot ≡ R.Object n) ↔ IsWritten (take n slot) slot
 
--- for some object (accepted-some)
+-- for some object (accepted_some)
 abbrev pub AcceptedSome : Type 0
 AcceptedSome = (slot : List ℕ) → Bytes slot
     → ((n : ℕ) × (verdict_of slot ≡ R.Object n)) ↔ ((object : List ℕ) × Bytes object × IsWritten object slot)
 
--- and that object is handed back (accepted-back)
+-- and that object is handed back (accepted_back)
 abbrev pub AcceptedBack : Type 0
 AcceptedBack = (slot object : List ℕ) → Bytes object → IsWritten object slot → object_part (verdict_of slot) slot ≡ object

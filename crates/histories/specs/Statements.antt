@@ -36,7 +36,7 @@ use Rattle.histories.specs.Invariant.{Inv}
 abbrev pub Reached : Type 0
 Reached = (n m : ℕ) → capacities n m ≡ true → (h : List Call) → Inv (state n m h)
 
--- ---- 2. the tallies (Tallied.tallied, Tallied.below-tip)
+-- ---- 2. the tallies (Tallied.tallied, Tallied.below_tip)
 
 -- the rows of the last granted fresh or rebuild
 abbrev pub rows_by : Verdict → Call → List Row → List Row
@@ -78,7 +78,7 @@ Tallied = (n m : ℕ) → capacities n m ≡ true → (h : List Call) → Tally 
 abbrev pub BelowTip : Type 0
 BelowTip = (t : List ℕ) (used : ℕ) → 1 ≤ length t → held_or_pending t + count_if is_free (take (tip t used) t) ≡ tip t used
 
--- ---- 3. the smallest free number (Smallest.new-ids, Smallest.no-new-id, Smallest.new-slots), whatever the tables hold
+-- ---- 3. the smallest free number (Smallest.new_ids, Smallest.no_new_id, Smallest.new_slots), whatever the tables hold
 
 -- n is free, and no number from `from` on is that is smaller
 pub record SmallestFree (from n : ℕ) (t : List ℕ) : Type 0 where
@@ -160,7 +160,7 @@ pub record LiveRows (s : Store) (rs : List Row) (bytes : List ℕ) : Type 0 wher
   pub wide : length bytes ≡ length (ids_of rs) * width
   pub short : tests_from key_too_long 0 (long_in (all_stored (ids_of rs)) bytes) ≡ ok
 
--- (Rebuilt.rebuild-agrees) a rebuild from the live rows, in any memory of the same capacities, is granted, and no later answer differs
+-- (Rebuilt.rebuild_agrees) a rebuild from the live rows, in any memory of the same capacities, is granted, and no later answer differs
 abbrev pub RebuildAgrees : Type 0
 RebuildAgrees =
     (n m : ℕ) (h : List Call) (rs : List Row) (bytes : List ℕ) (memory : Store) →
@@ -183,7 +183,7 @@ abbrev pub granted_of : Store → List Call → List Call
 granted_of s [] = []
 granted_of s (c ∷ cs) = keep_if (refusal s c) c (granted_of (next s c) cs)
 
--- (Abandoned.abandon-agrees) a batch is offered, calls are made while it is open, it is abandoned: later answers are as if it had never been
+-- (Abandoned.abandon_agrees) a batch is offered, calls are made while it is open, it is abandoned: later answers are as if it had never been
 -- offered and only the calls granted in between had been made
 abbrev pub AbandonAgrees : Type 0
 AbandonAgrees =
@@ -192,7 +192,7 @@ AbandonAgrees =
     answers (next (after (next (state n m h) (offer o)) between) abandon) later
     ≡ answers (after (state n m h) (granted_of (next (state n m h) (offer o)) between)) later
 
--- (Lent.memory-agrees, Lent.rebuild-agrees-lent) the same of the lent tables, whatever they hold: a sequence of calls on them is answered
+-- (Lent.memory_agrees, Lent.rebuild_agrees_lent) the same of the lent tables, whatever they hold: a sequence of calls on them is answered
 -- as on the store that is read from them, so after a rebuild in any memory of the right lengths no later answer differs
 abbrev pub answers_in : Memory → List Call → List Seen
 answers_in m [] = []
@@ -209,19 +209,19 @@ RebuildAgreesLent =
     (refusal (read memory) (rebuild (columns rs bytes)) ≡ ok) ×
     ((later : List Call) → answers_in (memory_after memory (rebuild (columns rs bytes))) later ≡ answers (state n m h) later)
 
--- (NormalRows.reached-normal) each row of the column is in its normal form: no key over 64, and zeros behind it
+-- (NormalRows.reached_normal) each row of the column is in its normal form: no key over 64, and zeros behind it
 abbrev pub Normal : List ℕ → Type 0
 Normal t = (i : ℕ) → i * width + width ≤ length t → is_normal (part width t i) ≡ true
 
 abbrev pub ReachedNormal : Type 0
 ReachedNormal = (n m : ℕ) (h : List Call) → Normal (state n m h).carried
 
--- (LiveRows.rows-exist) the rows that a rebuild wants can always be had
+-- (LiveRows.rows_exist) the rows that a rebuild wants can always be had
 abbrev pub RowsExist : Type 0
 RowsExist = (n m : ℕ) (h : List Call) → capacities n m ≡ true → AtRest (state n m h)
     → (rs : List Row) × (bytes : List ℕ) × LiveRows (state n m h) rs bytes
 
--- (Examples.rebuild-met, Examples.abandon-met) some history meets each condition: one that stores and frees is at rest with two live rows, and
+-- (Examples.rebuild_met, Examples.abandon_met) some history meets each condition: one that stores and frees is at rest with two live rows, and
 -- there is a memory to rebuild in; one offers a batch, and between the offer and the abandon one call is granted and one refused
 abbrev pub RebuildMet : Type 0
 RebuildMet =
@@ -234,12 +234,12 @@ AbandonMet =
     (refusal (state 9 4 h) (offer o) ≡ ok) × StaysOpen (next (state 9 4 h) (offer o)) between ×
     (length between ≡ 2) × (length (granted_of (next (state 9 4 h) (offer o)) between) ≡ 1)
 
--- ---- 5. a defrag list fits its lent lists (MovesFit.moves-fit), whatever the tables hold
+-- ---- 5. a defrag list fits its lent lists (MovesFit.moves_fit), whatever the tables hold
 
 abbrev pub MovesFit : Type 0
 MovesFit = (s : Store) (r : Float) → capacities s.ids s.slots ≡ true → length (all_moves s r) ≤ s.ids - 1
 
--- ---- 6. a page is as many lookups (Pages.page-rows), whatever the tables hold
+-- ---- 6. a page is as many lookups (Pages.page_rows), whatever the tables hold
 
 -- a lookup's answer as a row: 0, its value and its list; or its number, and zeros
 abbrev pub row_of : Answer → Told
@@ -253,13 +253,13 @@ PageRows = (s : Store) (p : Page) (ts : List Told) (row : List ℕ) → answer s
 
 -- ---- 7. why an object is on a defrag list, or is not, whatever the tables hold
 
--- (Reasons.why-not-stored) no such stored object: exactly where a lookup is refused with 8
+-- (Reasons.why_not_stored) no such stored object: exactly where a lookup is refused with 8
 abbrev pub WhyNotStored : Type 0
 WhyNotStored =
     (s : Store) (i : ℕ) (r : Float) (g : Reason) (row : List ℕ) → sized s ≡ true → length row ≡ width → answer s (ask (why i r)) ≡ granted (because g)
     → (g ≡ not_stored) ↔ (answer s (ask (lookup i row)) ≡ refused no_such_id 0)
 
--- (Reasons.why-listed) listed, at a location: exactly where the object is stored and the defrag list of the same ratio has the id there
+-- (Reasons.why_listed) listed, at a location: exactly where the object is stored and the defrag list of the same ratio has the id there
 abbrev pub ListedAt : Reason → ℕ → Type 0
 ListedAt not_stored l = ⊥
 ListedAt (full_enough w) l = ⊥
@@ -271,14 +271,14 @@ WhyListed =
     (s : Store) (i : ℕ) (r : Float) (g : Reason) (is ls : List ℕ) (ms : List Row) → answer s (ask (why i r)) ≡ granted (because g)
     → answer s (ask (defrag r is ls)) ≡ granted (moves ms) → (l : ℕ) → ListedAt g l ↔ ((g ≢ not_stored) × Memᴰ (i, l) ms)
 
--- (Reasons.reached-listed) after any history what is on the list is stored: listed exactly where the list has the id
+-- (Reasons.reached_listed) after any history what is on the list is stored: listed exactly where the list has the id
 abbrev pub ReachedListed : Type 0
 ReachedListed =
     (n m : ℕ) (h : List Call) (i : ℕ) (r : Float) (g : Reason) (is ls : List ℕ) (ms : List Row) → capacities n m ≡ true
     → answer (state n m h) (ask (why i r)) ≡ granted (because g) → answer (state n m h) (ask (defrag r is ls)) ≡ granted (moves ms)
     → (l : ℕ) → ListedAt g l ↔ Memᴰ (i, l) ms
 
--- (Reasons.list-uses) the line and the tip are the list's: of the slab it has a slot exactly from the line on and below the tip, where its owner has it as its
+-- (Reasons.list_uses) the line and the tip are the list's: of the slab it has a slot exactly from the line on and below the tip, where its owner has it as its
 -- location. Where the slab is full enough the list starts at the tip, so that it has none
 abbrev pub StartsAt : Reason → Standing → ℕ → Type 0
 StartsAt not_stored v start = ⊥
@@ -293,7 +293,7 @@ ListUses =
     → Memᴰ (o, packing v.slab j) ms
     ↔ ((start ≤ j) × (j < v.tip) × (get_or s.owners (v.slab * s.slots + j) 0 ≡ o) × (movable s v.slab j o ≡ true))
 
--- (Reasons.one-reason) of the four exactly one applies by document 01, and it is the one that is given
+-- (Reasons.one_reason) of the four exactly one applies by document 01, and it is the one that is given
 
 -- where the object of id i stands, and what is counted of its slab
 pub record Stands (s : Store) (i : ℕ) (w : Standing) : Type 0 where

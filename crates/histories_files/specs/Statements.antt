@@ -35,7 +35,7 @@ pub record CarriedOver (s memory : Store) (file : List ℕ) (t : ReadInto) : Typ
   pub rebuilt : refusal memory (rebuild (rows_read (length (stored_ids s)) t)) ≡ ok
   pub agrees : (later : List Call) → answers (next memory (rebuild (rows_read (length (stored_ids s)) t))) later ≡ answers s later
 
--- (Files.snapshot-agrees) of every store at rest, into any lists that have room for 5 rows a block, and in any memory of the same
+-- (Files.snapshot_agrees) of every store at rest, into any lists that have room for 5 rows a block, and in any memory of the same
 -- capacities. What rows carry is lent as bytes, so the column holds bytes.
 abbrev pub SnapshotAgrees : Type 0
 SnapshotAgrees =
@@ -45,13 +45,13 @@ SnapshotAgrees =
     memory.ids ≡ n → memory.slots ≡ m → sized memory ≡ true →
     CarriedOver (state n m h) memory file (read_into (snapshot_of (state n m h)) ids locations carried)
 
--- (Examples.snapshot-met) some history meets the conditions: at rest, with bytes in the column, and with two rows
+-- (Examples.snapshot_met) some history meets the conditions: at rest, with bytes in the column, and with two rows
 abbrev pub SnapshotMet : Type 0
 SnapshotMet =
     (h : List Call) × AtRest (state 9 4 h) × Bytes (state 9 4 h).carried × (length (stored_ids (state 9 4 h)) ≡ 2) ×
     (snapshot_bytes (state 9 4 h) ≡ 512)
 
--- (Files.version1-opens) what was stored with snapshots of version 1 opens: no key of its rows is too long for a rebuild, and a store that is rebuilt from
+-- (Files.version1_opens) what was stored with snapshots of version 1 opens: no key of its rows is too long for a rebuild, and a store that is rebuilt from
 -- such a file finds every row of it, with its location, its collection and an empty key. Its next snapshot is of version 2, and has just these rows.
 abbrev pub without_key : Entry → List ℕ
 without_key e = e.carried ++ replicate 72 0
@@ -73,7 +73,7 @@ Version1Opens =
     20 * ((length es - 1) / 20 + 1) ≤ length ids → length locations ≡ length ids → length carried ≡ length ids * width →
     Opened es (rows_read (length es) (read_into (file_of version1 es) ids locations carried))
 
--- (Examples.version1-met) some rows meet the conditions, and a rebuild from what is read of their file is granted
+-- (Examples.version1_met) some rows meet the conditions, and a rebuild from what is read of their file is granted
 abbrev pub Version1Met : Type 0
 Version1Met =
     (es : List Entry) × (length es ≡ 2) × All (Valid version1) es × (ascending es ≡ true) ×

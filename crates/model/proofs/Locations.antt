@@ -1,5 +1,5 @@
 -- Laws of locations: what is_location says of a number, and the number's place in the slot tables. The place tells the location
--- (slotPlace-inj), and that is what keeps slots apart. Assumes nothing.
+-- (slot_place_inj), and that is what keeps slots apart. Assumes nothing.
 use mathlib.Core.Path.{◌≡◌, sym, ◌∙◌, ap}
 use mathlib.Core.Logic.{◌≢◌}
 use mathlib.Core.Bool.{true, ◌&&◌}

@@ -1,5 +1,5 @@
 -- That the tables have their lengths: one record, for the tables that are lent. A granted call has it (Granted), a test of lengths tells it
--- (sizes-read), and of a memory it says how long the lent words are. Assumes nothing.
+-- (sizes_read), and of a memory it says how long the lent words are. Assumes nothing.
 use mathlib.Core.Path.{◌≡◌, refl, ap, ◌∙◌}
 use mathlib.Core.Bool.{Bool, true, false, not, ◌&&◌}
 use mathlib.Core.List.{List}

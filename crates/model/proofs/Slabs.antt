@@ -1,5 +1,5 @@
 -- Laws of slot tables slab by slab: the marks of a slab count by its own words alone, and what changes one slab is seen in that slab alone
--- (countedSlabs-step, which every call on slots cites). Assumes nothing.
+-- (counted_slabs_step, which every call on slots cites). Assumes nothing.
 use mathlib.Core.Path.{ap, ◌≡◌, ◌∙◌, sym, refl, subst}
 use mathlib.Core.Logic.{◌≢◌}
 use mathlib.Core.List.{List, ◌++◌}

@@ -20,7 +20,7 @@ updates_keyed s seen i (u ∷ us) (long ∷ ls) =
     test (not (held_id s (id_of u))) no_such_id i ⨾ test (elem (id_of u) seen) repeated_id i ⨾ test long key_too_long i ⨾
     test (no_class u) too_large i ⨾ test (bad_location s (id_of u)) tables_disagree i ⨾ updates_keyed s (id_of u ∷ seen) (suc i) us ls
 
--- (offered-in-order)
+-- (offered_in_order)
 abbrev pub OfferedInOrder : Type 0
 OfferedInOrder =
     (s : Store) (o : Offer) → length o.stores ≡ length o.ids → length o.lengths ≡ length o.ids →
@@ -35,7 +35,7 @@ rows_keyed s is ls i (r ∷ rs) (long ∷ ks) =
     test (not (is_location s.slots r.1)) out_of_range i ⨾ test (elem r.1 ls) repeated_location i ⨾ test long key_too_long i ⨾
     rows_keyed s (r.0 ∷ is) (r.1 ∷ ls) (suc i) rs ks
 
--- (rebuilt-in-order)
+-- (rebuilt_in_order)
 abbrev pub RebuiltInOrder : Type 0
 RebuiltInOrder =
     (s : Store) (rs : Rows) → length rs.locations ≡ length rs.ids →

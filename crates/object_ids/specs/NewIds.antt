@@ -10,7 +10,7 @@ abbrev pub new_id_answer : NewId → Answer
 new_id_answer (N.Id id) = granted (gave id)
 new_id_answer (N.Refused r) = refused_as r
 
--- how many numbers a new id takes, by the mark of number 0 and the hint. Nothing here has to be believed: the law takes-read says that it
+-- how many numbers a new id takes, by the mark of number 0 and the hint. Nothing here has to be believed: the law takes_read says that it
 -- is what the store's rule gives
 abbrev pub takes : ℕ → ℕ → ℕ
 takes mark hint = cond (is_free mark && hint == 0) 2 1

@@ -171,7 +171,7 @@ pub class_of_none : (n : ℕ) → longest_with8 < n → Refused (refusal too_lar
 unfolding class_of
 class_of_none n h = simp (le-ltb (slab_for n) slabs (slab_for_none n h))
 
--- ---- isSlabSize: by the odd part and the power of two
+-- ---- is_slab_size: by the odd part and the power of two
 halve : (n t : ℕ) → n % 2 ≡ 0 → n / 2 / 2 ^ t * 2 ^ t ≡ n / 2 → n / 2 ^ suc t * 2 ^ suc t ≡ n
 halve n t e h =
     let q : n / 2 ^ suc t ≡ n / 2 / 2 ^ t = ap (λ (x : ℕ). n / 2 ^ x) (sym (one-add t)) ∙ sym (shr-shr n 1 t) in

@@ -1,5 +1,5 @@
 -- What `slab_for_size` compares with in place of a walk over the table. Nothing here has to be believed: contracts of private functions and laws cite
--- it, and by the laws (slabFor-first, slabFor-some, slabFor-none, by_bits) every class found with it is the table's. Assumes nothing.
+-- it, and by the laws (slab_for_first, slab_for_some, slab_for_none, by_bits) every class found with it is the table's. Assumes nothing.
 use Rattle.std.specs.Prelude.{ℕ}
 
 -- the longest object of the smallest slab

@@ -21,19 +21,19 @@ use Rattle.snapshot_laws.specs.Lent.{entries_from, Lent, Holds, Wrote}
 
 -- ---- 1. row by row, over every reader and every format that it knows
 
--- what is written is read back, row for row, with its key, and then comes the end (read-back)
+-- what is written is read back, row for row, with its key, and then comes the end (read_back)
 abbrev pub ReadBack : Type 0
 ReadBack =
     (reader : Reader) (f : Format) → Knows reader f → Sound f → (rows : List Entry) → length rows < 2 ^ 32 → All (Valid f) rows →
     ascending rows ≡ true → Reads reader (file_of f rows) S.End (position 0 0) (map shown_of rows)
 
--- a file of bytes that is read to its end is what writing its rows gives, in a format that the reader knows (read-exactly)
+-- a file of bytes that is read to its end is what writing its rows gives, in a format that the reader knows (read_exactly)
 abbrev pub ReadExactly : Type 0
 ReadExactly =
     (reader : Reader) → ((v : ℕ) → Sound (reader v)) → (file : List ℕ) → Bytes file → (rs : List _) →
     Reads reader file S.End (position 0 0) rs → Was reader file rs
 
--- reading never goes on for ever: from every position of every file the steps stop (read-ends)
+-- reading never goes on for ever: from every position of every file the steps stop (read_ends)
 abbrev pub ReadEnds : Type 0
 ReadEnds = (reader : Reader) (file : List ℕ) (at : Position) → Ends reader file at
 
@@ -46,7 +46,7 @@ Further =
 -- ---- 2. versions
 
 -- a file mixes no versions: a block of a version that the reader knows, after one of another, is refused with 19, whichever of its rows is asked
--- for (versions-apart)
+-- for (versions_apart)
 abbrev pub VersionsApart : Type 0
 VersionsApart =
     (reader : Reader) (before row : ℕ) (file : List ℕ) → is_place (suc before) (length file) ≡ true →
@@ -55,8 +55,8 @@ VersionsApart =
     version_in (block_at before file) ≢ version_in (block_at (suc before) file) →
     step_by reader (suc before) row file ≡ S.Refused (refusal wrong_block (suc before))
 
--- so a reading from the start shows the rows of the blocks before the first of another version, and stops there with 19 (mixed-stops); and the call that
--- fills lists answers this 19 where they have room (mixed-lists)
+-- so a reading from the start shows the rows of the blocks before the first of another version, and stops there with 19 (mixed_stops); and the call that
+-- fills lists answers this 19 where they have room (mixed_lists)
 abbrev pub MixedStops : Type 0
 MixedStops =
     (reader : Reader) → ((v : ℕ) → Sound (reader v)) → (before : ℕ) (file : List ℕ) → ((j : ℕ) → j ≤ before → wrong_by reader j file ≡ 0) →
@@ -76,15 +76,15 @@ MixedLists =
     (read_into file ids locations carried).answer ≡ T.Refused (refusal wrong_block (suc before))
 
 -- a block of a version that the reader does not know is refused with 6, in every file and wherever it stands, whichever of its rows is asked for
--- (unknown-version)
+-- (unknown_version)
 abbrev pub UnknownVersion : Type 0
 UnknownVersion =
     (reader : Reader) (number row : ℕ) (file : List ℕ) → is_place number (length file) ≡ true → is_signed (block_at number file) ≡ true →
     (format_at reader number file).version ≢ version_in (block_at number file) →
     step_by reader number row file ≡ S.Refused (refusal unknown_version number)
 
--- so a reader shows nothing of a file in such a version: reading it from the start stops with 6 (unknown-file), and so does the reader built before
--- on every file of version 2 (unknown-before)
+-- so a reader shows nothing of a file in such a version: reading it from the start stops with 6 (unknown_file), and so does the reader built before
+-- on every file of version 2 (unknown_before)
 abbrev pub UnknownFile : Type 0
 UnknownFile =
     (reader : Reader) (f : Format) → Sound f → (reader f.version).version ≢ f.version → (rows : List Entry) → length rows < 2 ^ 32 →
@@ -96,14 +96,14 @@ UnknownBefore =
     Reads format_before (file_of version2 rows) (S.Refused (refusal unknown_version 0)) (position 0 0) []
 
 -- what the laws ask of a reader and of a format holds of ours: every format of this library's reader is sound, it knows versions 1 and 2, and the
--- reader built before knows version 1 (readers-know)
+-- reader built before knows version 1 (readers_know)
 abbrev pub ReadersKnow : Type 0
 ReadersKnow = ((v : ℕ) → Sound (format_of v)) × Knows format_of version1 × Knows format_of version2 × Knows format_before version1
 
 -- ---- 3. whole, into lent lists
 
 -- what is written in a version that this library knows is read into lists that have room for as many rows as fit its blocks, and they start with its
--- rows (lists-read)
+-- rows (lists_read)
 abbrev pub ListsRead : Type 0
 ListsRead =
     (f : Format) → Knows format_of f → (rows : List Entry) → length rows < 2 ^ 32 → All (Valid f) rows → ascending rows ≡ true →
@@ -111,14 +111,14 @@ ListsRead =
     length carried ≡ length ids * width →
     Holds rows (read_into (file_of f rows) ids locations carried)
 
--- a file of bytes that is read into lists is what writing some rows gives, and the lists start with them (lists-exactly)
+-- a file of bytes that is read into lists is what writing some rows gives, and the lists start with them (lists_exactly)
 abbrev pub ListsExactly : Type 0
 ListsExactly =
     (file ids locations carried : List ℕ) (n : ℕ) → Bytes file → (read_into file ids locations carried).answer ≡ T.Rows n →
     Wrote file (read_into file ids locations carried)
 
--- it shows what the steps show: where it answers n rows these are n rows and then the end (lists-as-steps), and where it refuses a block
--- these are the rows of the blocks before it, and then the same refusal (lists-stop)
+-- it shows what the steps show: where it answers n rows these are n rows and then the end (lists_as_steps), and where it refuses a block
+-- these are the rows of the blocks before it, and then the same refusal (lists_stop)
 abbrev pub ListsAsSteps : Type 0
 ListsAsSteps =
     (file ids locations carried : List ℕ) (n : ℕ) → (read_into file ids locations carried).answer ≡ T.Rows n →

@@ -177,11 +177,17 @@ fn open<R: Files>(rt: &R, name: &[u8]) -> io::Result<R::File> {
 
 // A line of standard error: a file's name, and why it cannot be opened, as C says it, without C's number.
 fn say_error(rt: &(impl Eprint + AllocGlobal), name: &[u8], error: io::Error) -> io::Result<()> {
-    let name = String::from_utf8_lossy(rt.alloc(), name)?;
-    let error = format!(in rt.alloc(); "{error}")?;
-    match error.as_str().split_once(" (os error ") {
-        Some((words, _)) => eprintln!(rt; "{name}: {words}"),
-        None => eprintln!(rt; "{name}: {error}"),
+    match str::from_utf8(name) {
+        Ok(name) => eprint!(rt; "{name}: ")?,
+        Err(_) => eprint!(rt; "{}: ", name.escape_ascii())?,
+    }
+    match format!(in rt.alloc(); "{error}") {
+        Ok(error) => match error.as_str().split_once(" (os error ") {
+            Some((words, _)) => eprintln!(rt; "{words}"),
+            None => eprintln!(rt; "{error}"),
+        },
+        // Without memory for the cut the number stays.
+        Err(_) => eprintln!(rt; "{error}"),
     }
 }
 

@@ -1,4 +1,4 @@
--- `places::take_slot` meets its contract: the address that is unpacked is the location's slab and slot (unpacked-at). Assumes nothing.
+-- `places::take_slot` meets its contract: the address that is unpacked is the location's slab and slot (unpacked_at). Assumes nothing.
 use mathlib.Core.Path.{refl, sym, ap, ◌∙◌}
 use native.Mathlib.Omega.{arith}
 use Rattle.address.proofs.Laws.{unpacked_at, slots_range}

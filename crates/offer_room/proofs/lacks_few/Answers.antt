@@ -1,5 +1,5 @@
 -- `room::lacks_few` meets its contract. The loop's invariant: what is free in all and still asked for is what is free from here on and was asked
--- for, since each search that succeeds passes one free number (smallestFree-count). The measure is what is left to find. Assumes nothing.
+-- for, since each search that succeeds passes one free number (smallest_free_count). The measure is what is left to find. Assumes nothing.
 use mathlib.Core.Path.{refl, sym}
 use native.Mathlib.Omega.{arith}
 use borrow.Author.Tests.{lt-ltb, le-ltb}

@@ -1,4 +1,4 @@
--- `updates::kind` meets its contract: the slab is that of the class (classOf). Assumes nothing.
+-- `updates::kind` meets its contract: the slab is that of the class (class_of). Assumes nothing.
 use mathlib.Core.Bool.{not}
 use mathlib.Core.Path.{sym, ap, ◌∙◌}
 use Rattle.offer_updates.proofs.Laws.{kind_of_free, kind_of_slab, kind_of_none}

@@ -1,4 +1,4 @@
--- `release::granted` meets its contract: the tests in document 01's order, on lengths and the opened word (release-answer). Assumes nothing.
+-- `release::granted` meets its contract: the tests in document 01's order, on lengths and the opened word (release_answer). Assumes nothing.
 use mathlib.Core.Path.{sym, ◌∙◌}
 use Prim.Native.Nat.{◌<◌, ◌≤◌}
 use native.Mathlib.Omega.{arith}

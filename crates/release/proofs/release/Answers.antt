@@ -1,5 +1,5 @@
 -- `release::release` meets its contract: `granted` gives the answer, which tells whether anything is written; the ids' allocator, then the
--- slabs, are the memory after a release (release-after). Assumes nothing.
+-- slabs, are the memory after a release (release_after). Assumes nothing.
 use mathlib.Core.Path.{refl, sym, ap, ◌∙◌}
 use Rattle.model.specs.Store.{finished_answer}
 use Rattle.model.proofs.Answered.{refused_after}

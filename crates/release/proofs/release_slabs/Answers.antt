@@ -1,5 +1,5 @@
 -- `release::release_slabs` meets its contract. The loop's invariant: `start` is where the slab's marks begin, and to release the slabs that
--- are left, from the tables as they are now, is to release all from the tables as they were; one turn is the law release-turn. The measure
+-- are left, from the tables as they are now, is to release all from the tables as they were; one turn is the law release_turn. The measure
 -- is the number of slabs left. Assumes nothing.
 use mathlib.Core.Path.{refl, ◌∙◌}
 use Prim.Native.Nat.{◌-◌}

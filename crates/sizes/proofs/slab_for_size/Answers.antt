@@ -1,4 +1,4 @@
--- `slab_for_size` meets its contract: the smallest slab, a private function's answer, or none, each by its law of classOf. Assumes nothing.
+-- `slab_for_size` meets its contract: the smallest slab, a private function's answer, or none, each by its law of class_of. Assumes nothing.
 use mathlib.Core.Path.{sym}
 use native.Mathlib.Omega.{arith}
 use Rattle.sizes.proofs.Laws.{slab_for_first, class_of_slab, class_of_none}

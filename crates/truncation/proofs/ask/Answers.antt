@@ -1,5 +1,5 @@
--- `truncation::ask` meets its contract: the tests in document 01's order, each on lengths and words (ask-shape to ask-fine), then the tip of
--- the slab by its own marks (tip-read). Assumes nothing.
+-- `truncation::ask` meets its contract: the tests in document 01's order, each on lengths and words (ask_shape to ask_fine), then the tip of
+-- the slab by its own marks (tip_read). Assumes nothing.
 use mathlib.Core.Bool.{not}
 use mathlib.Core.Path.{sym, ap, ◌∙◌}
 use Rattle.refusal.specs.Refusals.{wrong_shape, batch_open, out_of_range, ratio_out_of_range}

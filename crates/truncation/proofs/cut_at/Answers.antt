@@ -1,4 +1,4 @@
--- `truncation::cut_at` meets its contract: each end by its law (cutAt-zero, -full, -nothing, -less). Assumes nothing.
+-- `truncation::cut_at` meets its contract: each end by its law (cut_at_zero, -full, -nothing, -less). Assumes nothing.
 use mathlib.Core.Path.{refl, sym, ap, ◌∙◌}
 use native.Mathlib.Omega.{arith}
 use Rattle.refusal.specs.Outcomes.{granted}

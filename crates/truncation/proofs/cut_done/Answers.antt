@@ -1,4 +1,4 @@
--- `truncation::cut_done` meets its contract: `ask` gives the refusal or the tip, and by the tip the laws report-keep and report-cut say what
+-- `truncation::cut_done` meets its contract: `ask` gives the refusal or the tip, and by the tip the laws report_keep and report_cut say what
 -- is answered and written. Assumes nothing.
 use mathlib.Core.Path.{sym, ap, ◌∙◌}
 use native.Mathlib.Omega.{arith}

@@ -1,5 +1,5 @@
 -- `truncation::new_length` meets its contract: the target, which is at most 2^51, and a slot fit a word, and so do whole slots of them
--- (whole-lt). Assumes nothing.
+-- (whole_lt). Assumes nothing.
 use mathlib.Core.Path.{ap}
 use native.Mathlib.Omega.{arith}
 use Rattle.model.specs.Truncation.{whole_slots}

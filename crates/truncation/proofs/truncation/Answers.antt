@@ -1,4 +1,4 @@
--- `truncation::truncation` meets its contract: `ask` gives the refusal or the tip, and by the tip the laws truncation-answer and truncation-
+-- `truncation::truncation` meets its contract: `ask` gives the refusal or the tip, and by the tip the laws truncation_answer and truncation-
 -- after say what is answered and written. Assumes nothing.
 use mathlib.Core.Path.{sym, ap, ◌∙◌}
 use native.Mathlib.Omega.{arith}

@@ -1,4 +1,4 @@
--- The tests, in the definition's order; an address comes from the checking constructor, which says the rest of them (unpacked-made). Assumes nothing.
+-- The tests, in the definition's order; an address comes from the checking constructor, which says the rest of them (unpacked_made). Assumes nothing.
 use mathlib.Core.Logic.{⊎_elim}
 use mathlib.Core.Path.{sym, ap, ◌∙◌}
 use borrow.Author.Tests.{eq-eqb, ne_eqb}

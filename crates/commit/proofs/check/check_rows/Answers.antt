@@ -1,5 +1,5 @@
 -- The first row that cannot be committed: of the rows before the first one out of range the first whose id's present location cannot be its
--- own, and where there is none that one (firstBad-either). Assumes nothing.
+-- own, and where there is none that one (first_bad_either). Assumes nothing.
 use borrow.Author.Tests.{lt-ltb, le-ltb}
 use Rattle.model.specs.Verdict.{test}
 use Rattle.batch_kept.specs.Kept.{bad_kept_row}

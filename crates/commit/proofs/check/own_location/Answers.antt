@@ -1,4 +1,4 @@
--- By what the location unpacks to: zero passes (badIn-zero), no address is refused (badIn-none), an address by its owner (badIn-at). Assumes nothing.
+-- By what the location unpacks to: zero passes (bad_in_zero), no address is refused (bad_in_none), an address by its owner (bad_in_at). Assumes nothing.
 use mathlib.Core.Bool.{not}
 use mathlib.Core.Path.{sym, ap, ◌∙◌}
 use borrow.Author.Tests.{ne_eqb}

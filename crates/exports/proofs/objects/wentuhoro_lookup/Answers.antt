@@ -1,5 +1,5 @@
 use mathlib.Core.Path.{refl, sym, ◌∙◌}
-use Rattle.exports.proofs.Laws.{exported_short, looked-exported, where_fits_fits, where_fits_short, one_word}
+use Rattle.exports.proofs.Laws.{exported_short, looked_exported, where_fits_fits, where_fits_short, one_word}
 use Rattle.exports.proofs.objects.wentuhoro_lookup.Goals as goal
 
 pub returns-then-location-ne1 : goal.returns-then-location-ne1
@@ -12,11 +12,11 @@ returns-in-Location c =
     let lent = c.args.location.now in
     let h = c.if-location-ne1.false in
     let e = c.get_location_for_object.ensures in
-    record { answers = looked-exported _ _ _ _ _ e.leaves e.answers c.in-Location.is lent _ _ h refl (one_word lent _ h); row_after = e.leaves ∙ where_fits_fits 1 lent _ _ h }
+    record { answers = looked_exported _ _ _ _ _ e.leaves e.answers c.in-Location.is lent _ _ h refl (one_word lent _ h); row_after = e.leaves ∙ where_fits_fits 1 lent _ _ h }
 
 pub returns-in-Refused : goal.returns-in-Refused
 returns-in-Refused c =
     let lent = c.args.location.now in
     let h = c.if-location-ne1.false in
     let e = c.get_location_for_object.ensures in
-    record { answers = looked-exported _ _ _ _ _ e.leaves e.answers c.in-Refused.is lent _ _ h (sym c.status.ensures) refl; row_after = e.leaves ∙ where_fits_fits 1 lent _ _ h }
+    record { answers = looked_exported _ _ _ _ _ e.leaves e.answers c.in-Refused.is lent _ _ h (sym c.status.ensures) refl; row_after = e.leaves ∙ where_fits_fits 1 lent _ _ h }

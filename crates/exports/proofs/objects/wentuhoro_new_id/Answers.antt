@@ -1,6 +1,6 @@
 use mathlib.Core.Path.{refl, sym, ◌∙◌}
 use Rattle.object_ids.specs.NewIds.{new_id_answer}
-use Rattle.exports.proofs.Laws.{exported_short, told-exported, one_word, where_fits_short, where_fits_fits}
+use Rattle.exports.proofs.Laws.{exported_short, told_exported, one_word, where_fits_short, where_fits_fits}
 use Rattle.exports.proofs.objects.wentuhoro_new_id.Goals as goal
 
 pub returns-then-id-ne1 : goal.returns-then-id-ne1
@@ -13,11 +13,11 @@ returns-in-Id c =
     let lent = c.args.id.now in
     let h = c.if-id-ne1.false in
     let e = c.allocate_object_id.ensures in
-    record { answers = told-exported new_id_answer _ _ _ e.result_value c.in-Id.is 1 lent _ _ h refl (one_word lent _ h); tables_after = e.tallies_after ∙ where_fits_fits 1 lent _ _ h }
+    record { answers = told_exported new_id_answer _ _ _ e.result_value c.in-Id.is 1 lent _ _ h refl (one_word lent _ h); tables_after = e.tallies_after ∙ where_fits_fits 1 lent _ _ h }
 
 pub returns-in-Refused : goal.returns-in-Refused
 returns-in-Refused c =
     let lent = c.args.id.now in
     let h = c.if-id-ne1.false in
     let e = c.allocate_object_id.ensures in
-    record { answers = told-exported new_id_answer _ _ _ e.result_value c.in-Refused.is 1 lent _ _ h (sym c.status.ensures) refl; tables_after = e.tallies_after ∙ where_fits_fits 1 lent _ _ h }
+    record { answers = told_exported new_id_answer _ _ _ e.result_value c.in-Refused.is 1 lent _ _ h (sym c.status.ensures) refl; tables_after = e.tallies_after ∙ where_fits_fits 1 lent _ _ h }

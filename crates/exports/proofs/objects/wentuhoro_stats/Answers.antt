@@ -1,6 +1,6 @@
 use mathlib.Core.Path.{refl, sym}
 use Rattle.object_ids.specs.Counts.{stats_answer}
-use Rattle.exports.proofs.Laws.{exported_short, told-exported}
+use Rattle.exports.proofs.Laws.{exported_short, told_exported}
 use Rattle.exports.proofs.objects.wentuhoro_stats.Goals as goal
 
 pub returns-then-sums-ne4 : goal.returns-then-sums-ne4
@@ -14,7 +14,7 @@ returns-in-Stats c =
     let lent = a.sums.now in
     let h = c.if-sums-ne4.false in
     let e = c.stats.ensures in
-    told-exported (stats_answer a.tallies.now) _ _ _ e c.in-Stats.is 4 lent _ _ h refl (sym c.four.ensures)
+    told_exported (stats_answer a.tallies.now) _ _ _ e c.in-Stats.is 4 lent _ _ h refl (sym c.four.ensures)
 
 pub returns-in-Refused : goal.returns-in-Refused
 returns-in-Refused c =
@@ -22,4 +22,4 @@ returns-in-Refused c =
     let lent = a.sums.now in
     let h = c.if-sums-ne4.false in
     let e = c.stats.ensures in
-    told-exported (stats_answer a.tallies.now) _ _ _ e c.in-Refused.is 4 lent _ _ h (sym c.status.ensures) refl
+    told_exported (stats_answer a.tallies.now) _ _ _ e c.in-Refused.is 4 lent _ _ h (sym c.status.ensures) refl

@@ -1,6 +1,6 @@
 use mathlib.Core.Path.{refl, sym}
 use Rattle.snapshot_writer.specs.Outcome.{measured_answer}
-use Rattle.exports.proofs.Laws.{exported_short, told-exported, one_word}
+use Rattle.exports.proofs.Laws.{exported_short, told_exported, one_word}
 use Rattle.exports.proofs.snapshots.wentuhoro_snapshot_length.Goals as goal
 
 pub returns-then-length-ne1 : goal.returns-then-length-ne1
@@ -13,11 +13,11 @@ returns-in-Bytes c =
     let lent = c.args.length.now in
     let h = c.if-length-ne1.false in
     let e = c.snapshot_length.ensures in
-    told-exported measured_answer _ _ _ e c.in-Bytes.is 1 lent _ _ h refl (one_word lent _ h)
+    told_exported measured_answer _ _ _ e c.in-Bytes.is 1 lent _ _ h refl (one_word lent _ h)
 
 pub returns-in-Refused : goal.returns-in-Refused
 returns-in-Refused c =
     let lent = c.args.length.now in
     let h = c.if-length-ne1.false in
     let e = c.snapshot_length.ensures in
-    told-exported measured_answer _ _ _ e c.in-Refused.is 1 lent _ _ h (sym c.status.ensures) refl
+    told_exported measured_answer _ _ _ e c.in-Refused.is 1 lent _ _ h (sym c.status.ensures) refl

@@ -1,4 +1,4 @@
--- `object_ids::copy_words` meets its contract. The loop's invariant: the rows up to `i` are the words up to `i` (copy-turn). The measure is
+-- `object_ids::copy_words` meets its contract. The loop's invariant: the rows up to `i` are the words up to `i` (copy_turn). The measure is
 -- the allocators that are left. Assumes nothing.
 use Rattle.std.proofs.Common.{refl, arith, rules}
 use Rattle.object_ids.proofs.LawsCounts.{copy_turn, copy_end}

@@ -1,5 +1,5 @@
 -- `object_ids::slots_sum` meets its contract. The loop's invariant: the total is the sum of the words from `i` on, and a turn puts one more
--- in front (sum-turn). The measure is `i`. Assumes nothing.
+-- in front (sum_turn). The measure is `i`. Assumes nothing.
 use Rattle.std.proofs.Common.{◌≡◌, ◌+◌, ◌%◌, ◌^◌, drop, ap, ◌∙◌, arith, rules}
 use Rattle.model.specs.Ids.{sum}
 use Rattle.object_ids.proofs.LawsCounts.{words, sum_end, sum_turn}

@@ -1,4 +1,4 @@
--- `object_ids::stats` meets its contract: the one test on lengths, then each sum by its callee (counters-answer). Assumes nothing.
+-- `object_ids::stats` meets its contract: the one test on lengths, then each sum by its callee (counters_answer). Assumes nothing.
 use Rattle.std.proofs.Common.{sym, ◌∙◌, arith}
 use Rattle.model.specs.Verdict.{test}
 use Rattle.object_ids.proofs.LawsCounts.{counters_answer, tallies_long}

@@ -1,5 +1,5 @@
--- `object_ids::allocate_object_id` meets its contract: `next_id` gives the answer, which tells whether the call is granted (newId-granted)
--- or writes nothing (refused-after). Assumes nothing.
+-- `object_ids::allocate_object_id` meets its contract: `next_id` gives the answer, which tells whether the call is granted (new_id_granted_lem)
+-- or writes nothing (refused_after). Assumes nothing.
 use Rattle.std.proofs.Common.{sym, refl, ap, ◌∙◌}
 use Rattle.model.proofs.Answered.{refused_after}
 use Rattle.model.specs.Store.{new_id}

@@ -1,5 +1,5 @@
 -- `object_ids::next_id` meets its contract: the tests in document 01's order, each on lengths and words, and the search from the hint; the
--- law newId-answer says that these are the store's own tests. Assumes nothing.
+-- law new_id_answer says that these are the store's own tests. Assumes nothing.
 use Rattle.std.proofs.Common.{◌<◌, ◌≤◌, get_or, sym, ap, ◌∙◌, arith, le-ltb, lt-ltb, le-leb}
 use borrow.Author.Tests.{lt-leb}
 use Rattle.marks.specs.Marks.{smallest_free}

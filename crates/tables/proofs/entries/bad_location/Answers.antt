@@ -1,4 +1,4 @@
--- By what unpacks: no address is bad but for zero (badIn-none), an address is where the id is not its owner (badIn-at). Assumes nothing.
+-- By what unpacks: no address is bad but for zero (bad_in_none), an address is where the id is not its owner (bad_in_at). Assumes nothing.
 use Rattle.std.proofs.Common.{not, sym, ap, ◌∙◌}
 use Rattle.tables.proofs.LawsEntries.{bad_in_none, bad_in_at}
 use Rattle.tables.proofs.entries.bad_location.Goals as goal

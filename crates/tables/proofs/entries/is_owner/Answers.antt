@@ -1,4 +1,4 @@
--- The tests are those of `owns_in`; where there is no such slab or capacity no slot is held (ownsIn-none). Assumes nothing.
+-- The tests are those of `owns_in`; where there is no such slab or capacity no slot is held (owns_in_none). Assumes nothing.
 use Rattle.std.proofs.Common.{sym, ◌∙◌, arith, le-ltb, lt-ltb}
 use borrow.Author.Tests.{not-true, not-false}
 use Rattle.tables.proofs.LawsEntries.{owns_in_none, start_lt}

@@ -1,4 +1,4 @@
--- `tables::defrag_fits` meets its contract: under good capacities each test is that of its table's length (fit-by). Assumes nothing.
+-- `tables::defrag_fits` meets its contract: under good capacities each test is that of its table's length (fit_by). Assumes nothing.
 use Rattle.std.proofs.Common.{refl, ◌∙◌}
 use Rattle.tables.proofs.Laws.{under, fit_by}
 use Rattle.tables.proofs.shapes.defrag_fits.Goals as goal

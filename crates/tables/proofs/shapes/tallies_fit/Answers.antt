@@ -1,4 +1,4 @@
--- `tables::tallies_fit` meets its contract: under good capacities each test is that of its table's length (fit-by). Assumes nothing.
+-- `tables::tallies_fit` meets its contract: under good capacities each test is that of its table's length (fit_by). Assumes nothing.
 use Rattle.std.proofs.Common.{refl, ◌∙◌}
 use Rattle.tables.proofs.Laws.{fit_by}
 use Rattle.tables.proofs.shapes.tallies_fit.Goals as goal
