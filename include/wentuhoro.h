@@ -13,7 +13,7 @@
  * elsewhere.
  *
  * No call allocates, locks, or keeps anything of its own between calls: a store is its tables. The stack that a call takes: some 65 KiB in
- * rebuild, 11 KiB in offer, 4 KiB in what computes a check, less than 1 KiB elsewhere.
+ * rebuild, 13 KiB in offer, 4 KiB in what computes a check, less than 1 KiB elsewhere.
  *
  * A program that holds its tables in a struct wentuhoro_store uses the wentuhoro_store_ functions at the end, which pass the fourteen
  * pointers and lengths.

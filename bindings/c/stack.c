@@ -150,13 +150,13 @@ int main(void) {
     over += measure("snapshot_read", snapshot_read, thread, 0);
     over += measure("snapshot_step", snapshot_step, thread, 0);
     for (size_t i = 0; i < WENTUHORO_MOST_UPDATES; i++) lengths[i] = 300;
-    over += measure("offer", offer, thread, 11);
+    over += measure("offer", offer, thread, 13);
     over += measure("abandon", abandon, thread, 0);
-    over += measure("offer", offer, thread, 11);
+    over += measure("offer", offer, thread, 13);
     over += measure("commit", commit, thread, 0);
     over += measure("release", release, thread, 0);
     memset(stores, 0, sizeof stores);
-    over += measure("offer", offer, thread, 11);
+    over += measure("offer", offer, thread, 13);
     over += measure("commit", commit, thread, 0);
     over += measure("release", release, thread, 0);
     over += measure("new_id", new_id, thread, 0);
