@@ -41,9 +41,10 @@ fn read_full(file: &mut impl Read, space: &mut [u8]) -> io::Result<usize>
 }
 
 // Reads the file into the space, and answers how many bytes it has; 0 where it cannot be opened, which standard error says. Which bytes these
-// are no contract can say.
+// are no contract can say; an error of the read leaves the space as long as it was.
 pub fn load(rt: &(impl Files + Eprint), name: &[u8], space: &mut [u8]) -> io::Result<usize>
-    ensures { IfOk result (λ n. n ≤ length space.new) }
+    ensures count { IfOk result (λ n. n ≤ length space.new) }
+    ensures kept { length space.new ≡ length space.old }
 {
     match open(rt, name) {
         Ok(mut file) => read_full(&mut file, space),
