@@ -22,10 +22,10 @@ use Rattle.model.specs.Step.{refusal_of, refusal, grant, answer}
 use Rattle.model.specs.Tests.{one_open}
 use Rattle.model.proofs.Granted.{granted_fits}
 use Rattle.model.proofs.Sizes.{fits_range, fits_batch}
-use Rattle.batch_kept.specs.declared.Rows.TheVariants as R
 use Rattle.batch_kept.specs.Kept.{count_of, kept_from, rows_as, first_bad, bad_kept_row}
 use Rattle.batch_kept.proofs.Laws.{abandon_rows_first, bad_row_read, kept_from_next, kept_from_none}
 use Rattle.batch_kept.proofs.Checked.{check_count, check_refused, check_kept, granted_answer, granted_after}
+use Rattle.std.specs.Prelude.{Ok, Err}
 
 -- ---- the refusal
 module _ (m : Memory) where
@@ -37,12 +37,12 @@ module _ (m : Memory) where
   abandon_rows e =
       ap (λ v. one_open (read m) ⨾ v) (abandon_rows_first (read m) bad (λ r. bad_row_read m r (fits_range slab_tables m e).slots_good) 0 (kept (read m)))
 
-  pub abandon_count : fits slab_tables m ≡ true → (n : ℕ) → count_of m.batch ≡ R.Count n
+  pub abandon_count : fits slab_tables m ≡ true → (n : ℕ) → count_of m.batch ≡ Ok n
       → rows_as (first_bad bad 0 (kept_from m.batch n 0)) n ≡ rows_as (refusal (read m) S.abandon) (pred (get_or m.batch 0 0))
   abandon_count e n q = check_count m S.abandon bad e (fits_batch slab_tables m e) (abandon_rows e) n q
 
-  pub abandon_refused : fits slab_tables m ≡ true → (r : Refusal) (p : ℕ) → count_of m.batch ≡ R.Refused r
-      → R.Refused r ≡ rows_as (refusal (read m) S.abandon) p
+  pub abandon_refused : fits slab_tables m ≡ true → (r : Refusal) (p : ℕ) → count_of m.batch ≡ Err r
+      → Err r ≡ rows_as (refusal (read m) S.abandon) p
   abandon_refused e r p q = check_refused m S.abandon bad e (fits_batch slab_tables m e) (abandon_rows e) r p q
 
   -- ---- where nothing is refused

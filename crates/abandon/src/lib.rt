@@ -1,8 +1,8 @@
 // Abandon: the open batch is dropped, and the slots that its offer took are free again (document 01, "Ids, slots, pending").
 //
 //     match abandon::abandon(caps, &mut slot_marks, &mut batch, &mut tallies) {
-//         Finished::Done => ..,
-//         Finished::Refused(refusal) => ..,  // 1; 12, no batch is open; 13 with the update's index; nothing is written
+//         Ok(()) => ..,
+//         Err(refusal) => ..,  // 1; 12, no batch is open; 13 with the update's index; nothing is written
 //     }
 //
 // Batches that no offer made are legal input: an update whose id or location is out of range gives 13, and a slot that is there
@@ -19,13 +19,12 @@ ghost use Rattle.model.specs.Step.{refusal};
 ghost use Rattle.batch_kept.specs.Kept.{kept_from, rows_as};
 ghost use Rattle.model.specs.Lent.{lent_to, answered, leaves};
 
-use address::{SlabAddress, Unpacked};
-use batch_kept::Rows;
-use refusal::{Finished, Refusal};
+use address::SlabAddress;
+use refusal::{Kind, Refusal};
 use tables::{Capacities, FREED, HINT, KEPT_LOCATIONS};
 
 // How many kept updates are to be abandoned, or why none. Nothing is written.
-fn check(caps: Capacities, slot_marks: &[u8], batch: &[u64], tallies: &[u64]) -> Rows
+fn check(caps: Capacities, slot_marks: &[u8], batch: &[u64], tallies: &[u64]) -> Result<usize, Refusal>
     ensures { result
         ≡ rows_as (refusal (read (lent_to abandon caps.ids caps.slots
         slot_marks.now
@@ -33,11 +32,11 @@ fn check(caps: Capacities, slot_marks: &[u8], batch: &[u64], tallies: &[u64]) ->
         tallies.now)) abandon) (pred (get_or batch.now 0 0)) }
 {
     if !tables::slab_fits(caps, slot_marks.len(), batch.len(), tallies.len()) {
-        return Rows::Refused(Refusal::of(Refusal::WRONG_SHAPE));
+        return Err(Refusal::of(Kind::WrongShape));
     }
     match batch_kept::opened(batch) {
-        Rows::Count(n) => batch_kept::in_range(caps.ids, caps.slots, batch, n),
-        Rows::Refused(refusal) => Rows::Refused(refusal),
+        Ok(n) => batch_kept::in_range(caps.ids, caps.slots, batch, n),
+        Err(refusal) => Err(refusal),
     }
 }
 
@@ -47,7 +46,7 @@ fn give_slot(slots: usize, slot_marks: &mut [u8], tallies: &mut [u64], location:
     ensures { ◌≡◌ {A = Slots} (record { marks = slot_marks.new; words = tallies.new })
         (give_slot slots (record { marks = slot_marks.old; words = tallies.old }) location) }
 {
-    let Unpacked::At(address) = SlabAddress::unpack(slots, location) else {
+    let Ok(Some(address)) = SlabAddress::unpack(slots, location) else {
         return;
     };
     let slab = address.slab;
@@ -80,7 +79,7 @@ pub fn abandon(
     slot_marks: &mut [u8],
     batch: &mut [u64],
     tallies: &mut [u64],
-) -> Finished
+) -> Result<(), Refusal>
     ensures answers { finished_answer result
         ≡ answered abandon caps.ids caps.slots
         slot_marks.old
@@ -96,12 +95,12 @@ pub fn abandon(
         tallies.old) }
 {
     match check(caps, slot_marks, batch, tallies) {
-        Rows::Refused(refusal) => Finished::Refused(refusal),
-        Rows::Count(n) => {
+        Err(refusal) => Err(refusal),
+        Ok(n) => {
             let slots = caps.slots;
             give_slots(slots, slot_marks, batch, tallies, n);
             tables::put(batch, 0, 0, 0);
-            Finished::Done
+            Ok(())
         }
     }
 }

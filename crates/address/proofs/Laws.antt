@@ -11,11 +11,7 @@ use Rattle.refusal.proofs.Tests.{or_false, by_test}
 use Rattle.address.specs.Address.{bad_slots, largest_slot, made_of, packing, packed, location_in, unpacked, unit}
 use Rattle.sizes.specs.Sizes.{slabs}
 use Rattle.address.specs.declared.SlabAddress.{SlabAddress}
-use Rattle.address.specs.declared.Made.{Made}
-use Rattle.address.specs.declared.Made.TheVariants as M
-use Rattle.address.specs.declared.Packed.TheVariants as P
-use Rattle.address.specs.declared.Unpacked.{Unpacked}
-use Rattle.address.specs.declared.Unpacked.TheVariants as U
+use Rattle.std.specs.Prelude.{Result, Ok, Err, Option, Some, None}
 
 -- ---- bad_slots
 pub slots_range : (slots : ℕ) → bad_slots slots ≡ false → (1 ≤ slots) × (slots ≤ 65536)
@@ -32,13 +28,13 @@ pub record Comes (slots location : ℕ) (a : SlabAddress) : Type 0 where
   pub slot_lt : a.slot < slots
   pub whole : packing a.slab a.slot ≡ location
 
-pub unpacked_at : (slots location : ℕ) (a : SlabAddress) → unpacked slots location ≡ U.At a → Comes slots location a
+pub unpacked_at : (slots location : ℕ) (a : SlabAddress) → unpacked slots location ≡ Ok (Some a) → Comes slots location a
 unfolding unpacked
 unpacked_at slots location a =
     by (bad_slots slots) (eqb location 0) (leb 1 (location / unit)) (leb (location / unit) slabs) (ltb (location % unit) slots) refl refl refl refl
   where
     by : (s z l h t : Bool) → bad_slots slots ≡ s → leb 1 (location / unit) ≡ l → leb (location / unit) slabs ≡ h → ltb (location % unit) slots ≡ t
-        → cond s (U.Refused (refusal wrong_shape 0)) (cond z U.NoObject (cond (l && h && t) (U.At (record { slab = location / unit - 1; slot = location % unit })) (U.Refused (refusal out_of_range 0)))) ≡ U.At a
+        → cond s (Err (refusal wrong_shape 0)) (cond z (Ok None) (cond (l && h && t) (Ok (Some (record { slab = location / unit - 1; slot = location % unit }))) (Err (refusal out_of_range 0)))) ≡ Ok (Some a)
         → Comes slots location a
     by true z l h t o p q r e = let n : ◌≡◌ {A = ℕ} 0 1 = cc in absurd (omega arith)
     by false true l h t o p q r e = let n : ◌≡◌ {A = ℕ} 0 1 = cc in absurd (omega arith)
@@ -56,18 +52,18 @@ unpacked_at slots location a =
         }
 
 -- by the checking constructor: a location from the weight of a slab on, whose slot is below the capacity
-abbrev pub unpacked_by : Made → Unpacked
-unpacked_by (M.At a) = U.At a
-unpacked_by (M.Refused r) = U.Refused r
+abbrev pub unpacked_by : Result SlabAddress Refusal → Result (Option SlabAddress) Refusal
+unpacked_by (Ok a) = Ok (Some a)
+unpacked_by (Err r) = Err r
 
 module _ (slots location : ℕ) (ok : bad_slots slots ≡ false) (nz : eqb location 0 ≡ false) where
-  pub unpacked_low : location < unit → U.Refused (refusal out_of_range 0) ≡ unpacked slots location
+  pub unpacked_low : location < unit → Err (refusal out_of_range 0) ≡ unpacked slots location
   unfolding unpacked
   unpacked_low h =
       let low : leb 1 (location / unit) ≡ false = lt-leb 1 (location / unit) (omega arith) in
       simp (ok, nz, low)
 
-  pub unpacked_past : slots ≤ location % unit → U.Refused (refusal out_of_range 0) ≡ unpacked slots location
+  pub unpacked_past : slots ≤ location % unit → Err (refusal out_of_range 0) ≡ unpacked slots location
   unfolding unpacked
   unpacked_past h =
       let past : ltb (location % unit) slots ≡ false = le-ltb (location % unit) slots h in
@@ -90,20 +86,20 @@ module _ (slots location : ℕ) (ok : bad_slots slots ≡ false) (nz : eqb locat
 
 -- ---- made
 -- the address that is made is the one that was asked for
-pub made_at : (slab slot : ℕ) (a : SlabAddress) → made_of slab slot ≡ M.At a → ◌≡◌ {A = SlabAddress} (record { slab = slab; slot = slot }) a
+pub made_at : (slab slot : ℕ) (a : SlabAddress) → made_of slab slot ≡ Ok a → ◌≡◌ {A = SlabAddress} (record { slab = slab; slot = slot }) a
 unfolding made_of
 made_at slab slot a = by (leb slabs slab || ltb largest_slot slot)
   where
-    by : (t : Bool) → cond t (M.Refused (refusal out_of_range 0)) (M.At (record { slab = slab; slot = slot })) ≡ M.At a → ◌≡◌ {A = SlabAddress} (record { slab = slab; slot = slot }) a
+    by : (t : Bool) → cond t (Err (refusal out_of_range 0)) (Ok (record { slab = slab; slot = slot })) ≡ Ok a → ◌≡◌ {A = SlabAddress} (record { slab = slab; slot = slot }) a
     by true e = let n : ◌≡◌ {A = ℕ} 0 1 = cc in absurd (omega arith)
     by false e = cc
 
 -- so what it packs into is what the slab and the slot do
-pub made_packed : (slots slab slot : ℕ) (a : SlabAddress) → made_of slab slot ≡ M.At a → packed slots a ≡ packed slots (record { slab = slab; slot = slot })
+pub made_packed : (slots slab slot : ℕ) (a : SlabAddress) → made_of slab slot ≡ Ok a → packed slots a ≡ packed slots (record { slab = slab; slot = slot })
 made_packed slots slab slot a e = ap (packed slots) (sym (made_at slab slot a e))
 
 -- one that is not made has no packed location, whatever the capacity
-pub made_none : (slots slab slot : ℕ) (r : Refusal) → made_of slab slot ≡ M.Refused r → location_in (packed slots (record { slab = slab; slot = slot })) ≡ 0
+pub made_none : (slots slab slot : ℕ) (r : Refusal) → made_of slab slot ≡ Err r → location_in (packed slots (record { slab = slab; slot = slot })) ≡ 0
 unfolding made_of packed
 made_none slots slab slot r e =
     by_test (bad_slots slots) (λ b. simp b)
@@ -116,12 +112,12 @@ made_none slots slab slot r e =
     let p : leb slots slot ≡ true = le-leb slots slot (omega (arith, ltb-true largest_slot slot u)) in
     simp (b, t, p))
     (λ u.
-    let q : M.At (record { slab = slab; slot = slot }) ≡ M.Refused r = simp (t, u) at e in
+    let q : Ok (record { slab = slab; slot = slot }) ≡ Err r = simp (t, u) at e in
     let n : ◌≡◌ {A = ℕ} 0 1 = cc in absurd (omega arith))))
 
 -- ---- packing, then unpacking
 pub unpacked_packed : (slots : ℕ) (a : SlabAddress) → bad_slots slots ≡ false → a.slab < slabs → a.slot < slots
-    → unpacked slots (packing a.slab a.slot) ≡ U.At a
+    → unpacked slots (packing a.slab a.slot) ≡ Ok (Some a)
 unfolding unpacked
 unpacked_packed slots a ok b s =
     let r = slots_range slots ok in
@@ -134,13 +130,13 @@ unpacked_packed slots a ok b s =
     let slot : ltb a.slot slots ≡ true = lt-ltb _ _ s in
     simp (ok, nz, d, m, low, high, slot, k)
 
-pub packed_location : (slots : ℕ) (a : SlabAddress) (location : ℕ) → packed slots a ≡ P.Location location → unpacked slots location ≡ U.At a
+pub packed_location : (slots : ℕ) (a : SlabAddress) (location : ℕ) → packed slots a ≡ Ok location → unpacked slots location ≡ Ok (Some a)
 unfolding packed
 packed_location slots a location = by (bad_slots slots) (leb slabs a.slab) (leb slots a.slot) refl refl refl
   where
     by : (s b t : Bool) → bad_slots slots ≡ s → leb slabs a.slab ≡ b → leb slots a.slot ≡ t
-        → cond s (P.Refused (refusal wrong_shape 0)) (cond (b || t) (P.Refused (refusal out_of_range 0)) (P.Location (packing a.slab a.slot))) ≡ P.Location location
-        → unpacked slots location ≡ U.At a
+        → cond s (Err (refusal wrong_shape 0)) (cond (b || t) (Err (refusal out_of_range 0)) (Ok (packing a.slab a.slot))) ≡ Ok location
+        → unpacked slots location ≡ Ok (Some a)
     by true b t p q r e = let n : ◌≡◌ {A = ℕ} 0 1 = cc in absurd (omega arith)
     by false true t p q r e = let n : ◌≡◌ {A = ℕ} 0 1 = cc in absurd (omega arith)
     by false false true p q r e = let n : ◌≡◌ {A = ℕ} 0 1 = cc in absurd (omega arith)
@@ -149,7 +145,7 @@ packed_location slots a location = by (bad_slots slots) (leb slabs a.slab) (leb 
         rw l at (unpacked_packed slots a p (leb-false _ _ q) (leb-false _ _ r))
 
 -- ---- unpacking, then packing
-pub packed_unpacked : (slots location : ℕ) (a : SlabAddress) → unpacked slots location ≡ U.At a → packed slots a ≡ P.Location location
+pub packed_unpacked : (slots location : ℕ) (a : SlabAddress) → unpacked slots location ≡ Ok (Some a) → packed slots a ≡ Ok location
 unfolding packed
 packed_unpacked slots location a e =
     let c = unpacked_at slots location a e in

@@ -1,22 +1,19 @@
 -- The outcome of each answer: document 01's number and values. Assumes nothing.
-use Rattle.std.specs.Prelude.{[], ◌∷◌}
-use Rattle.refusal.specs.Outcomes.{Values, granted, refused_as}
-use Rattle.address.specs.declared.Made.{Made}
-use Rattle.address.specs.declared.Made.TheVariants as M
-use Rattle.address.specs.declared.Packed.{Packed}
-use Rattle.address.specs.declared.Packed.TheVariants as P
-use Rattle.address.specs.declared.Unpacked.{Unpacked}
-use Rattle.address.specs.declared.Unpacked.TheVariants as U
+use Rattle.std.specs.Prelude.{List, ℕ, [], ◌∷◌, Result, Ok, Err, Option, Some, None, ℕ}
+use Rattle.refusal.specs.Outcomes.{Values, outcome_by}
+use Rattle.refusal.specs.declared.Refusal.{Refusal}
+use Rattle.address.specs.declared.SlabAddress.{SlabAddress}
 
-abbrev pub made_outcome : Made → Values
-made_outcome (M.At a) = granted (a.slab ∷ a.slot ∷ [])
-made_outcome (M.Refused r) = refused_as r
+abbrev pub made_outcome : Result SlabAddress Refusal → Values
+made_outcome r = outcome_by (λ a. (a.slab ∷ a.slot ∷ [])) r
 
-abbrev pub packed_outcome : Packed → Values
-packed_outcome (P.Location location) = granted (location ∷ [])
-packed_outcome (P.Refused r) = refused_as r
+abbrev pub packed_outcome : Result ℕ Refusal → Values
+packed_outcome r = outcome_by (λ location. (location ∷ [])) r
 
-abbrev pub unpacked_outcome : Unpacked → Values
-unpacked_outcome (U.At a) = granted (a.slab ∷ a.slot ∷ [])
-unpacked_outcome U.NoObject = granted []
-unpacked_outcome (U.Refused r) = refused_as r
+-- nothing where there is no object
+abbrev pub unpacked_says : Option SlabAddress → List ℕ
+unpacked_says None = []
+unpacked_says (Some a) = a.slab ∷ a.slot ∷ []
+
+abbrev pub unpacked_outcome : Result (Option SlabAddress) Refusal → Values
+unpacked_outcome r = outcome_by unpacked_says r

@@ -1,42 +1,23 @@
 // Where an object stands: a slab and a slot, and the one number that both are packed into (document 01, "Addresses").
 //
-//     let Made::At(address) = SlabAddress::from_slab_slot(77, 5) else { .. };  // 3, no such slab or slot
-//     let Packed::Location(location) = address.pack(slots) else { .. };        // 1, a capacity out of range; 3, a slot past it
+//     let Ok(address) = SlabAddress::from_slab_slot(77, 5) else { .. };  // 3, no such slab or slot
+//     let Ok(location) = address.pack(slots) else { .. };        // 1, a capacity out of range; 3, a slot past it
 //     match SlabAddress::unpack(slots, location) {
-//         Unpacked::At(address) => ..,
-//         Unpacked::NoObject => ..,          // a location of zero
-//         Unpacked::Refused(refusal) => ..,  // 1, a capacity out of range; 3, no such slab or slot
+//         Ok(Some(address)) => ..,
+//         Ok(None) => ..,          // a location of zero
+//         Err(refusal) => ..,  // 1, a capacity out of range; 3, no such slab or slot
 //     }
 #![tactic(auto)]
 
 ghost use Rattle.std.specs.Prelude.{◌≡◌};
 ghost use Rattle.address.specs.Address.{bad_slots, made_of, packed, unpacked};
 
-use refusal::Refusal;
+use refusal::{Kind, Refusal};
 
 #[derive(Clone, Copy)]
 pub struct SlabAddress {
     pub slab: usize,
     pub slot: usize,
-}
-
-#[derive(Clone, Copy)]
-pub enum Made {
-    At(SlabAddress),
-    Refused(Refusal),
-}
-
-#[derive(Clone, Copy)]
-pub enum Packed {
-    Location(u64),
-    Refused(Refusal),
-}
-
-#[derive(Clone, Copy)]
-pub enum Unpacked {
-    At(SlabAddress),
-    NoObject,
-    Refused(Refusal),
 }
 
 // Whether `slots` is no slot capacity: 1 to 65,536 are.
@@ -56,63 +37,60 @@ impl SlabAddress {
     pub const UNIT: u64 = 0x100_0000_0000_0000;
 
     // The address of a slot that some capacity has.
-    pub fn from_slab_slot(slab: usize, slot: usize) -> Made
+    pub fn from_slab_slot(slab: usize, slot: usize) -> Result<SlabAddress, Refusal>
         ensures { result ≡ made_of slab slot }
     {
         if slab >= Self::SLABS || slot > Self::LARGEST_SLOT {
-            return Made::Refused(Refusal {
-                number: Refusal::OUT_OF_RANGE,
+            return Err(Refusal {
+                kind: Kind::OutOfRange,
                 index: 0,
             });
         }
-        Made::At(SlabAddress { slab, slot })
+        Ok(SlabAddress { slab, slot })
     }
 
     // The packed location of an address, in slabs of `slots` slots.
-    pub fn pack(self, slots: usize) -> Packed
+    pub fn pack(self, slots: usize) -> Result<u64, Refusal>
         ensures { result ≡ packed slots self }
     {
         let slab = self.slab;
         let slot = self.slot;
         if bad_slots(slots) {
-            return Packed::Refused(Refusal {
-                number: Refusal::WRONG_SHAPE,
+            return Err(Refusal {
+                kind: Kind::WrongShape,
                 index: 0,
             });
         }
         if slab >= Self::SLABS || slot >= slots {
-            return Packed::Refused(Refusal {
-                number: Refusal::OUT_OF_RANGE,
+            return Err(Refusal {
+                kind: Kind::OutOfRange,
                 index: 0,
             });
         }
-        Packed::Location((slab as u64 + 1) * Self::UNIT + slot as u64)
+        Ok((slab as u64 + 1) * Self::UNIT + slot as u64)
     }
 
     // The address that a packed location stands for, in slabs of `slots` slots.
-    pub fn unpack(slots: usize, location: u64) -> Unpacked
+    pub fn unpack(slots: usize, location: u64) -> Result<Option<SlabAddress>, Refusal>
         ensures { result ≡ unpacked slots location }
     {
         if bad_slots(slots) {
-            return Unpacked::Refused(Refusal {
-                number: Refusal::WRONG_SHAPE,
+            return Err(Refusal {
+                kind: Kind::WrongShape,
                 index: 0,
             });
         }
         if location == 0 {
-            return Unpacked::NoObject;
+            return Ok(None);
         }
         let slot = (location % Self::UNIT) as usize;
         if location < Self::UNIT || slot >= slots {
-            return Unpacked::Refused(Refusal {
-                number: Refusal::OUT_OF_RANGE,
+            return Err(Refusal {
+                kind: Kind::OutOfRange,
                 index: 0,
             });
         }
         let slab = (location / Self::UNIT - 1) as usize;
-        match Self::from_slab_slot(slab, slot) {
-            Made::At(address) => Unpacked::At(address),
-            Made::Refused(refusal) => Unpacked::Refused(refusal),
-        }
+        Ok(Some(Self::from_slab_slot(slab, slot)?))
     }
 }

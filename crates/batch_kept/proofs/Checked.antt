@@ -17,27 +17,26 @@ use Rattle.model.specs.Step.{refusal_of, refusal, grant, answer}
 use Rattle.model.specs.Tests.{one_open}
 use Rattle.model.proofs.Granted.{fits_rest, granted_rest}
 use Rattle.model.proofs.Verdicts.{first_ok}
-use Rattle.batch_kept.specs.declared.Rows.{Rows}
-use Rattle.batch_kept.specs.declared.Rows.TheVariants as R
 use Rattle.batch_kept.specs.Kept.{count_of, kept_from, rows_then, rows_as, first_bad}
 use Rattle.batch_kept.proofs.Laws.{one_open_rows, one_open_few, count_of_count, kept_rows}
+use Rattle.std.specs.Prelude.{Result, Ok, Err}
 
 -- ---- once the lengths are right: the opened word, then the first bad row
 module _ (m : Memory) (call : Call) (bad : Row → Bool) (fit : fits (lending_of call) m ≡ true) (long : length m.batch ≡ batch_words)
     (e : refusal_of (read m) call ≡ (one_open (read m) ⨾ first_bad bad 0 (kept (read m)))) where
-  opened_then : (x : Rows) → count_of m.batch ≡ x → refusal (read m) call ≡ rows_then x (first_bad bad 0 (kept (read m)))
+  opened_then : (x : Result ℕ Refusal) → count_of m.batch ≡ x → refusal (read m) call ≡ rows_then x (first_bad bad 0 (kept (read m)))
   opened_then x q =
       fits_rest m call fit ∙ e ∙ one_open_rows m (first_bad bad 0 (kept (read m))) ∙ ap (λ y. rows_then y (first_bad bad 0 (kept (read m)))) q
 
-  pub check_count : (n : ℕ) → count_of m.batch ≡ R.Count n
+  pub check_count : (n : ℕ) → count_of m.batch ≡ Ok n
       → rows_as (first_bad bad 0 (kept_from m.batch n 0)) n ≡ rows_as (refusal (read m) call) (pred (get_or m.batch 0 0))
   check_count n q =
       let z = count_of_count m.batch n q in
-      let r = opened_then (R.Count n) q ∙ ap (first_bad bad 0) (kept_rows m n long z.0 z.1) in
+      let r = opened_then (Ok n) q ∙ ap (first_bad bad 0) (kept_rows m n long z.0 z.1) in
       λ i. rows_as (sym r i) (z.0 i)
 
-  pub check_refused : (r : Refusal) (p : ℕ) → count_of m.batch ≡ R.Refused r → R.Refused r ≡ rows_as (refusal (read m) call) p
-  check_refused r p q = sym (ap (λ v. rows_as v p) (opened_then (R.Refused r) q))
+  pub check_refused : (r : Refusal) (p : ℕ) → count_of m.batch ≡ Err r → Err r ≡ rows_as (refusal (read m) call) p
+  check_refused r p q = sym (ap (λ v. rows_as v p) (opened_then (Err r) q))
 
   -- where nothing is refused, the kept rows are as many as the opened word says
   pub check_kept : refusal (read m) call ≡ ok → (n : ℕ) → n ≡ pred (get_or m.batch 0 0) → kept (read m) ≡ kept_from m.batch n 0

@@ -15,8 +15,6 @@ use Rattle.refusal.specs.Refusals.{refusal, no_batch, tables_disagree}
 use Rattle.refusal.specs.declared.Refusal.{Refusal}
 use Rattle.refusal.proofs.Tests.{by_test}
 use Rattle.address.specs.Address.{unit, is_location, bad_slots, unpacked}
-use Rattle.address.specs.declared.Unpacked.{Unpacked}
-use Rattle.address.specs.declared.Unpacked.TheVariants as U
 use Rattle.model.specs.Store.{Store, Row}
 use Rattle.model.specs.Verdict.{Verdict, ok, refuse, ◌⨾◌, test}
 use Rattle.model.specs.Tables.{most_updates, most_opened, pairs, kept, bad_location}
@@ -25,9 +23,9 @@ use Rattle.model.specs.Memory.{Memory, kept_ids_at, kept_locations_at, batch_wor
 use Rattle.model.specs.Batches.{bad_row, abandon_rows, commit_rows}
 use Rattle.model.proofs.Verdicts.{test_ok, then_ok}
 use Rattle.model.proofs.Locations.{is_location_says, is_location_nz}
-use Rattle.batch_kept.specs.declared.Rows.{Rows}
-use Rattle.batch_kept.specs.declared.Rows.TheVariants as R
 use Rattle.batch_kept.specs.Kept.{count_by, count_of, rows_then, rows_as, rows_before, kept_from, no_address, bad_kept, first_bad, by_address, kept_row}
+use Rattle.std.specs.Prelude.{Result, Ok, Err, Option, Some, None}
+use Rattle.address.specs.declared.SlabAddress.{SlabAddress}
 
 -- ---- rows
 pairs_from : (b : List ℕ) (n i : ℕ) → length b ≡ batch_words → i + n ≤ most_updates → pairs n (drop i (take most_updates (drop kept_ids_at b))) (drop i (drop kept_locations_at b)) ≡ kept_from b n i
@@ -92,15 +90,15 @@ one_open_lem (suc o) v =
     let p : ltb 0 (suc o) ≡ true = lt-ltb 0 (suc o) (omega arith) in
     by_test (ltb most_opened (suc o)) (λ e. simp (p, eqb-suc-zero o, e)) (λ e. simp (p, eqb-suc-zero o, e))
 
-rows_count : (o n : ℕ) → count_by o ≡ R.Count n → (n ≡ pred o) × (n ≤ most_updates)
+rows_count : (o n : ℕ) → count_by o ≡ Ok n → (n ≡ pred o) × (n ≤ most_updates)
 rows_count zero n e = let z : ◌≡◌ {A = ℕ} 0 1 = cc in absurd (omega arith)
 rows_count (suc o) n e =
     by_test (ltb most_opened (suc o))
     (λ h.
-    let q : R.Refused (refusal tables_disagree 0) ≡ R.Count n = simp (eqb-suc-zero o, h) at e in
+    let q : Err (refusal tables_disagree 0) ≡ Ok n = simp (eqb-suc-zero o, h) at e in
     let z : ◌≡◌ {A = ℕ} 0 1 = cc in absurd (omega arith))
     (λ h.
-    let q : R.Count (suc o - 1) ≡ R.Count n = simp (eqb-suc-zero o, h) at e in
+    let q : Ok (suc o - 1) ≡ Ok n = simp (eqb-suc-zero o, h) at e in
     let r : suc o - 1 ≡ n = cc in
     (omega arith, omega (arith, ltb-false most_opened (suc o) h)))
 
@@ -108,7 +106,7 @@ pub one_open_rows : (m : Memory) (v : Verdict) → (one_open (read m) ⨾ v) ≡
 unfolding read count_of
 one_open_rows m v = one_open_lem (get_or m.batch 0 0) v
 
-pub count_of_count : (b : List ℕ) (n : ℕ) → count_of b ≡ R.Count n → (n ≡ pred (get_or b 0 0)) × (n ≤ most_updates)
+pub count_of_count : (b : List ℕ) (n : ℕ) → count_of b ≡ Ok n → (n ≡ pred (get_or b 0 0)) × (n ≤ most_updates)
 unfolding count_of
 count_of_count b n e = rows_count (get_or b 0 0) n e
 
@@ -122,11 +120,11 @@ unfolding read
 kept_rows m n l e h = ap (λ x. pairs x (take most_updates (drop kept_ids_at m.batch)) (drop kept_locations_at m.batch)) (sym e) ∙ pairs_rows m.batch n l h
 
 -- ---- what a check's answer tells
-pub rows_as_count : (v : Verdict) (p n : ℕ) → rows_as v p ≡ R.Count n → (v ≡ ok) × (n ≡ p)
+pub rows_as_count : (v : Verdict) (p n : ℕ) → rows_as v p ≡ Ok n → (v ≡ ok) × (n ≡ p)
 rows_as_count ok p n e = let q : p ≡ n = cc in (refl, sym q)
 rows_as_count (refuse k i) p n e = let z : ◌≡◌ {A = ℕ} 0 1 = cc in absurd (omega arith)
 
-pub rows_as_refused : (v : Verdict) (p : ℕ) (r : Refusal) → rows_as v p ≡ R.Refused r → v ≡ refuse r.number r.index
+pub rows_as_refused : (v : Verdict) (p : ℕ) (r : Refusal) → rows_as v p ≡ Err r → v ≡ refuse r.number r.index
 rows_as_refused ok p r e = let z : ◌≡◌ {A = ℕ} 0 1 = cc in absurd (omega arith)
 rows_as_refused (refuse k i) p r e =
     let q : refusal k i ≡ r = cc in
@@ -166,7 +164,7 @@ module _ (p q : Row → Bool) (b : List ℕ) where
       (λ e. by_test (q (get_or b (1 + i) 0, get_or b (257 + i) 0)) (λ f. simp (e, f, more)) (λ f. simp (e, f, more) (before_either n (suc i) end (omega arith))))
 
   -- the second test is asked of the rows before the first bad one by the first
-  pub first_bad_either : (n : ℕ) (said own : Rows) (end first : ℕ) → said ≡ rows_as (first_bad p 0 (kept_from b n 0)) n → end ≡ rows_before said
+  pub first_bad_either : (n : ℕ) (said own : Result ℕ Refusal) (end first : ℕ) → said ≡ rows_as (first_bad p 0 (kept_from b n 0)) n → end ≡ rows_before said
       → own ≡ rows_as (first_bad q 0 (kept_from b end 0)) end → first ≡ rows_before own
       → rows_as (first_bad (λ r. p r || q r) 0 (kept_from b n 0)) n ≡ rows_as (test (ltb first n) tables_disagree first) n
   first_bad_either n said own end first s e o f =
@@ -203,7 +201,7 @@ bad_row_read m r c =
     rw (no_address_is m.slots r.1 c) (not_and (ltb 0 r.0 && ltb r.0 m.ids) (eqb r.1 0 || is_location m.slots r.1))
 
 -- what an `if let` on an unpacked location tells where it is not refused
-pub not_refused : (u : Unpacked) → ((r : Refusal) → u ≡ U.Refused r → ⊥) → no_address u ≡ false
-not_refused (U.At a) k = refl
-not_refused U.NoObject k = refl
-not_refused (U.Refused r) k = absurd (k r refl)
+pub not_refused : (u : Result (Option SlabAddress) Refusal) → ((r : Refusal) → u ≡ Err r → ⊥) → no_address u ≡ false
+not_refused (Ok (Some a)) k = refl
+not_refused (Ok None) k = refl
+not_refused (Err r) k = absurd (k r refl)

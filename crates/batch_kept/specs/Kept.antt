@@ -1,25 +1,23 @@
 -- The kept batch in the words that hold it. Nothing here has to be believed: proofs/Laws.antt shows that each says what the model says of the
 -- batch that is read from them. Assumes nothing.
-use Rattle.std.specs.Prelude.{Bool, true, false, not, cond, ◌&&◌, ◌||◌, List, [], ◌∷◌, ℕ, zero, suc, ◌+◌, ◌-◌, ltb, eqb, get_or}
+use Rattle.std.specs.Prelude.{Bool, true, false, not, cond, ◌&&◌, ◌||◌, List, [], ◌∷◌, ℕ, zero, suc, ◌+◌, ◌-◌, ltb, eqb, get_or, Result, Ok, Err, Option, Some, None}
 use Rattle.refusal.specs.Refusals.{refusal, no_batch, tables_disagree}
 use Rattle.address.specs.Address.{unpacked}
-use Rattle.address.specs.declared.Unpacked.{Unpacked}
-use Rattle.address.specs.declared.Unpacked.TheVariants as U
 use Rattle.model.specs.Store.{Row}
 use Rattle.model.specs.Tables.{most_opened}
 use Rattle.model.specs.Memory.{kept_ids_at, kept_locations_at}
 use Rattle.model.specs.Verdict.{Verdict, ok, refuse, ◌⨾◌, test}
-use Rattle.batch_kept.specs.declared.Rows.{Rows}
-use Rattle.batch_kept.specs.declared.Rows.TheVariants as R
+use Rattle.refusal.specs.declared.Refusal.{Refusal}
+use Rattle.address.specs.declared.SlabAddress.{SlabAddress}
 
 -- how many updates are kept, by the opened word
-abbrev pub count_by : ℕ → Rows
+abbrev pub count_by : ℕ → Result ℕ Refusal
 count_by opened =
-    cond (eqb opened 0) (R.Refused (refusal no_batch 0))
-    (cond (ltb most_opened opened) (R.Refused (refusal tables_disagree 0))
-    (R.Count (opened - 1)))
+    cond (eqb opened 0) (Err (refusal no_batch 0))
+    (cond (ltb most_opened opened) (Err (refusal tables_disagree 0))
+    (Ok (opened - 1)))
 
-unfoldable pub count_of : List ℕ → Rows
+unfoldable pub count_of : List ℕ → Result ℕ Refusal
 count_of b = count_by (get_or b 0 0)
 
 -- the kept update i
@@ -32,10 +30,10 @@ kept_from b zero i = []
 kept_from b (suc n) i = kept_row b i ∷ kept_from b n (suc i)
 
 -- a location that is neither 0 nor an address
-abbrev pub no_address : Unpacked → Bool
-no_address (U.At a) = false
-no_address U.NoObject = false
-no_address (U.Refused r) = true
+abbrev pub no_address : Result (Option SlabAddress) Refusal → Bool
+no_address (Ok (Some a)) = false
+no_address (Ok None) = false
+no_address (Err r) = true
 
 -- an id, or a new location, out of range
 unfoldable pub bad_kept : ℕ → ℕ → ℕ → ℕ → Bool
@@ -50,22 +48,22 @@ first_bad bad i [] = ok
 first_bad bad i (r ∷ rs) = test (bad r) tables_disagree i ⨾ first_bad bad (suc i) rs
 
 -- no such batch, or what is decided of its rows
-abbrev pub rows_then : Rows → Verdict → Verdict
-rows_then (R.Refused r) v = refuse r.number r.index
-rows_then (R.Count n) v = v
+abbrev pub rows_then : Result ℕ Refusal → Verdict → Verdict
+rows_then (Err r) v = refuse r.number r.index
+rows_then (Ok n) v = v
 
 -- n updates where nothing is refused
-abbrev pub rows_as : Verdict → ℕ → Rows
-rows_as ok n = R.Count n
-rows_as (refuse number index) n = R.Refused (refusal number index)
+abbrev pub rows_as : Verdict → ℕ → Result ℕ Refusal
+rows_as ok n = Ok n
+rows_as (refuse number index) n = Err (refusal number index)
 
 -- how many updates come before the one that is refused; all of them where none is
-abbrev pub rows_before : Rows → ℕ
-rows_before (R.Count n) = n
-rows_before (R.Refused r) = r.index
+abbrev pub rows_before : Result ℕ Refusal → ℕ
+rows_before (Ok n) = n
+rows_before (Err r) = r.index
 
 -- what stands at an address, by its allocator and its slot, and d where there is none
-abbrev pub by_address : {A : Type 0} → (ℕ → ℕ → A) → A → Unpacked → A
-by_address f d (U.At a) = f (suc a.slab) a.slot
-by_address f d U.NoObject = d
-by_address f d (U.Refused r) = d
+abbrev pub by_address : {A : Type 0} → (ℕ → ℕ → A) → A → Result (Option SlabAddress) Refusal → A
+by_address f d (Ok (Some a)) = f (suc a.slab) a.slot
+by_address f d (Ok None) = d
+by_address f d (Err r) = d

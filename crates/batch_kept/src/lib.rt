@@ -1,7 +1,7 @@
 // The batch that the store keeps between an offer and its commit or abandon (document 01, "Ids, slots, pending"): how many updates
 // it has, and which of them are out of range. Batches that no offer made are legal input.
 //
-//     let Rows::Count(n) = batch_kept::opened(&batch) else { .. };  // 12, none is open; 13, more than MOST_UPDATES
+//     let Ok(n) = batch_kept::opened(&batch) else { .. };  // 12, none is open; 13, more than MOST_UPDATES
 //     // the updates 0 to n - 1: ids from tables::KEPT_IDS on, new locations from tables::KEPT_LOCATIONS on
 //     batch_kept::in_range(ids, slots, &batch, n)  // 13 with the index of the first of them that is out of range
 #![tactic(auto)]
@@ -9,30 +9,24 @@
 ghost use Rattle.std.specs.Prelude.{◌≡◌};
 ghost use Rattle.batch_kept.specs.Kept.{count_of, bad_kept, bad_kept_row, first_bad, kept_from, rows_as};
 
-use address::{SlabAddress, Unpacked};
-use refusal::Refusal;
+use address::SlabAddress;
+use refusal::{Kind, Refusal};
 use tables::{KEPT_IDS, KEPT_LOCATIONS, MOST_UPDATES};
-
-#[derive(Clone, Copy)]
-pub enum Rows {
-    Count(usize),
-    Refused(Refusal),
-}
 
 // The opened word says one more than there are updates, and 0 where no batch is open.
 const MOST_OPENED: u64 = MOST_UPDATES as u64 + 1;
 
-pub fn opened(batch: &[u64]) -> Rows
+pub fn opened(batch: &[u64]) -> Result<usize, Refusal>
     ensures { result ≡ count_of batch.now }
 {
     let word = tables::get(batch, 0, 0);
     if word == 0 {
-        return Rows::Refused(Refusal::of(Refusal::NO_BATCH));
+        return Err(Refusal::of(Kind::NoBatch));
     }
     if word > MOST_OPENED {
-        return Rows::Refused(Refusal::of(Refusal::TABLES_DISAGREE));
+        return Err(Refusal::of(Kind::TablesDisagree));
     }
-    Rows::Count((word - 1) as usize)
+    Ok((word - 1) as usize)
 }
 
 // Whether a kept update's id, or its new location, is out of range. Location 0 is a Free's.
@@ -45,14 +39,14 @@ fn bad_kept(ids: usize, slots: usize, id: u64, location: u64) -> bool
     if ids as u64 <= id {
         return true;
     }
-    if let Unpacked::Refused(_) = SlabAddress::unpack(slots, location) {
+    if let Err(_) = SlabAddress::unpack(slots, location) {
         return true;
     }
     false
 }
 
 // The n kept updates, or 13 for the first that is out of range.
-pub fn in_range(ids: usize, slots: usize, batch: &[u64], n: usize) -> Rows
+pub fn in_range(ids: usize, slots: usize, batch: &[u64], n: usize) -> Result<usize, Refusal>
     ensures { result ≡ rows_as (first_bad (bad_kept_row ids slots) 0 (kept_from batch.now n 0)) n }
 {
     let mut i: usize = 0;
@@ -60,9 +54,9 @@ pub fn in_range(ids: usize, slots: usize, batch: &[u64], n: usize) -> Rows
         let id = tables::get(batch, KEPT_IDS, i);
         let location = tables::get(batch, KEPT_LOCATIONS, i);
         if bad_kept(ids, slots, id, location) {
-            return Rows::Refused(Refusal::at(Refusal::TABLES_DISAGREE, i));
+            return Err(Refusal::at(Kind::TablesDisagree, i));
         }
         i += 1;
     }
-    Rows::Count(n)
+    Ok(n)
 }

@@ -10,7 +10,6 @@ use Rattle.refusal.specs.Outcomes.{granted}
 use Rattle.refusal.specs.Refusals.{tables_disagree}
 use Rattle.refusal.specs.Refusals as Refusals
 use Rattle.refusal.specs.declared.Refusal.{Refusal}
-use Rattle.refusal.specs.declared.Judged.TheVariants as J
 use Rattle.address.specs.Address.{bad_slots, slabs}
 use Rattle.carried.specs.Carried.{width, committed}
 use Rattle.model.specs.Store as S
@@ -30,12 +29,11 @@ use Rattle.model.proofs.Granted.{granted_fits, granted_rest}
 use Rattle.model.proofs.Sizes.{fits_range, fits_slot_marks, fits_batch}
 use Rattle.model.proofs.Verdicts.{first_ok}
 use Rattle.tables.proofs.LawsEntries.{bad_in_read}
-use Rattle.batch_kept.specs.declared.Rows.{Rows}
-use Rattle.batch_kept.specs.declared.Rows.TheVariants as R
 use Rattle.batch_kept.specs.Kept.{count_of, kept_from, rows_as, first_bad}
 use Rattle.batch_kept.proofs.Laws.{bad_row_read, commit_rows_first, one_open_few, rows_as_count, rows_as_refused}
 use Rattle.batch_kept.proofs.Checked.{check_count, check_refused, check_kept, granted_answer, granted_after}
 use Rattle.commit.specs.Commit.{own_as, not_own, row_bad}
+use Rattle.std.specs.Prelude.{Result, Ok, Err}
 
 -- ---- one row
 row_bad_read : (m : Memory) (r : Row) → bad_slots m.slots ≡ false → length m.slot_marks ≡ slabs * m.slots
@@ -53,11 +51,11 @@ not_own_read slots locations marks owners words id old x y r told p q e h =
     ∙ ap (λ o. bad_in slots marks owners words id o) (ap (λ a. get_or locations a 0) (sym z) ∙ sym q) ∙ sym e ∙ h
 
 -- ---- what is said of a row
-pub own_as_refused : (bad : Bool) (i : ℕ) (r : Refusal) → own_as bad i ≡ J.Refused r → (bad ≡ true) × (r ≡ Refusals.refusal tables_disagree i)
+pub own_as_refused : (bad : Bool) (i : ℕ) (r : Refusal) → own_as bad i ≡ Err r → (bad ≡ true) × (r ≡ Refusals.refusal tables_disagree i)
 own_as_refused true i r e = let q : Refusals.refusal tables_disagree i ≡ r = cc in (refl, sym q)
 own_as_refused false i r e = let z : ◌≡◌ {A = ℕ} 0 1 = cc in absurd (omega arith)
 
-pub own_as_passed : (bad : Bool) (i : ℕ) → own_as bad i ≡ J.Passed → bad ≡ false
+pub own_as_passed : (bad : Bool) (i : ℕ) → own_as bad i ≡ (Ok tt) → bad ≡ false
 own_as_passed true i e = let z : ◌≡◌ {A = ℕ} 0 1 = cc in absurd (omega arith)
 own_as_passed false i e = refl
 
@@ -86,20 +84,20 @@ module _ (m : Memory) where
       ap (λ v. one_open (read m) ⨾ v)
       (commit_rows_first (read m) bad (λ r. row_bad_read m r (fits_range every_table m e).slots_good (fits_slot_marks every_table m e)) 0 (kept (read m)))
 
-  pub commit_count : fits every_table m ≡ true → (n : ℕ) → count_of m.batch ≡ R.Count n
+  pub commit_count : fits every_table m ≡ true → (n : ℕ) → count_of m.batch ≡ Ok n
       → rows_as (first_bad bad 0 (kept_from m.batch n 0)) n ≡ rows_as (refusal (read m) S.commit) (pred (get_or m.batch 0 0))
   commit_count e n q = check_count m S.commit bad e (fits_batch every_table m e) (commit_rows e) n q
 
-  pub commit_refused : fits every_table m ≡ true → (r : Refusal) (p : ℕ) → count_of m.batch ≡ R.Refused r
-      → R.Refused r ≡ rows_as (refusal (read m) S.commit) p
+  pub commit_refused : fits every_table m ≡ true → (r : Refusal) (p : ℕ) → count_of m.batch ≡ Err r
+      → Err r ≡ rows_as (refusal (read m) S.commit) p
   commit_refused e r p q = check_refused m S.commit bad e (fits_batch every_table m e) (commit_rows e) r p q
 
   -- the check's answer, read back: it counted, or it refused
-  pub check_counted : (r : Rows) (n : ℕ) → r ≡ rows_as (refusal (read m) S.commit) (pred (get_or m.batch 0 0)) → r ≡ R.Count n
+  pub check_counted : (r : Result ℕ Refusal) (n : ℕ) → r ≡ rows_as (refusal (read m) S.commit) (pred (get_or m.batch 0 0)) → r ≡ Ok n
       → (refusal (read m) S.commit ≡ ok) × (n ≡ pred (get_or m.batch 0 0))
   check_counted r n e q = rows_as_count _ _ n (sym e ∙ q)
 
-  pub check_told : (r : Rows) (f : Refusal) → r ≡ rows_as (refusal (read m) S.commit) (pred (get_or m.batch 0 0)) → r ≡ R.Refused f
+  pub check_told : (r : Result ℕ Refusal) (f : Refusal) → r ≡ rows_as (refusal (read m) S.commit) (pred (get_or m.batch 0 0)) → r ≡ Err f
       → refusal (read m) S.commit ≡ refuse f.number f.index
   check_told r f e q = rows_as_refused _ _ f (sym e ∙ q)
 

@@ -8,18 +8,17 @@ ghost use Rattle.batch_kept.specs.Kept.{kept_from, first_bad, rows_as, rows_befo
 ghost use Rattle.tables.specs.Entries.{bad_in};
 ghost use Rattle.commit.specs.Commit.{own_as, not_own, row_bad};
 
-use address::{SlabAddress, Unpacked};
-use batch_kept::Rows;
-use refusal::{Judged, Refusal};
+use address::SlabAddress;
+use refusal::{Kind, Refusal};
 use tables::{Capacities, KEPT_IDS};
 
 // How many updates come before the one that is refused.
-fn rows_before(said: Rows) -> usize
+fn rows_before(said: Result<usize, Refusal>) -> usize
     ensures { result ≡ rows_before said }
 {
     match said {
-        Rows::Count(n) => n,
-        Rows::Refused(refusal) => refusal.index,
+        Ok(n) => n,
+        Err(refusal) => refusal.index,
     }
 }
 
@@ -33,20 +32,20 @@ fn own_location(
     id: u64,
     location: u64,
     i: usize,
-) -> Judged
+) -> Result<(), Refusal>
     ensures { result
         ≡ own_as (bad_in slots slot_marks.now owners.now tallies.now id location) i }
 {
     if location == 0 {
-        return Judged::Passed;
+        return Ok(());
     }
-    let Unpacked::At(address) = SlabAddress::unpack(slots, location) else {
-        return Judged::Refused(Refusal::at(Refusal::TABLES_DISAGREE, i));
+    let Ok(Some(address)) = SlabAddress::unpack(slots, location) else {
+        return Err(Refusal::at(Kind::TablesDisagree, i));
     };
     if !tables::is_owner(slots, slot_marks, owners, tallies, id, address) {
-        return Judged::Refused(Refusal::at(Refusal::TABLES_DISAGREE, i));
+        return Err(Refusal::at(Kind::TablesDisagree, i));
     }
-    Judged::Passed
+    Ok(())
 }
 
 // The first n kept updates, or 13 for the first of them whose id's present location cannot be its own.
@@ -58,7 +57,7 @@ fn own_rows(
     batch: &[u64],
     tallies: &[u64],
     n: usize,
-) -> Rows
+) -> Result<usize, Refusal>
     ensures { result
         ≡ rows_as (first_bad (not_own slots
         locations.now
@@ -71,12 +70,12 @@ fn own_rows(
         let id = tables::get(batch, KEPT_IDS, i);
         let old = tables::get(locations, 0, id as usize);
         let own = own_location(slots, slot_marks, owners, tallies, id, old, i);
-        if let Judged::Refused(refusal) = own {
-            return Rows::Refused(refusal);
+        if let Err(refusal) = own {
+            return Err(refusal);
         }
         i += 1;
     }
-    Rows::Count(n)
+    Ok(n)
 }
 
 // The n kept updates, or 13 for the first that cannot be committed: it is out of range, or the id's present location cannot be its own.
@@ -88,7 +87,7 @@ fn check_rows(
     batch: &[u64],
     tallies: &[u64],
     n: usize,
-) -> Rows
+) -> Result<usize, Refusal>
     ensures { result
         ≡ rows_as (first_bad (row_bad caps.ids caps.slots
         locations.now
@@ -104,9 +103,9 @@ fn check_rows(
     );
     let first = rows_before(own);
     if first < n {
-        return Rows::Refused(Refusal::at(Refusal::TABLES_DISAGREE, first));
+        return Err(Refusal::at(Kind::TablesDisagree, first));
     }
-    Rows::Count(n)
+    Ok(n)
 }
 
 // How many kept updates are to be committed, or why none.
@@ -119,7 +118,7 @@ pub(crate) fn check(
     batch: &[u64],
     tallies: &[u64],
     carried: &[u8],
-) -> Rows
+) -> Result<usize, Refusal>
     ensures { result
         ≡ rows_as (refusal (read (lent_to commit caps.ids caps.slots
         id_marks.now
@@ -140,10 +139,10 @@ pub(crate) fn check(
         tallies.len(),
         carried.len(),
     ) {
-        return Rows::Refused(Refusal::of(Refusal::WRONG_SHAPE));
+        return Err(Refusal::of(Kind::WrongShape));
     }
     match batch_kept::opened(batch) {
-        Rows::Count(n) => check_rows(caps, locations, slot_marks, owners, batch, tallies, n),
-        Rows::Refused(refusal) => Rows::Refused(refusal),
+        Ok(n) => check_rows(caps, locations, slot_marks, owners, batch, tallies, n),
+        Err(refusal) => Err(refusal),
     }
 }

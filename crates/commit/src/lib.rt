@@ -1,8 +1,8 @@
 // Commit: the open batch takes effect (document 01, "Ids, slots, pending"; request 2026-01 for what rows carry).
 //
 //     match commit::commit(caps, &mut id_marks, &mut locations, &mut slot_marks, &mut owners, &mut batch, &mut tallies, &mut carried) {
-//         Finished::Done => ..,
-//         Finished::Refused(refusal) => ..,  // 1; 12, no batch is open; 13 with the update's index; nothing is written
+//         Ok(()) => ..,
+//         Err(refusal) => ..,  // 1; 12, no batch is open; 13 with the update's index; nothing is written
 //     }
 //
 // All kept updates are checked against the tables as they are found (check.rt), then applied in list order, where nothing can
@@ -22,11 +22,10 @@ ghost use Rattle.model.specs.Lent.{lent_to, answered, leaves};
 ghost use Rattle.model.specs.MemoryAfter.{Slots, ready_slab, pend_slot, ready_marks, ready_words, commit_row, commit_all};
 ghost use Rattle.batch_kept.specs.Kept.{kept_from};
 
-use address::{SlabAddress, Unpacked};
-use batch_kept::Rows;
+use address::SlabAddress;
 use check::check;
 use marks::PENDING;
-use refusal::{Finished, Refusal};
+use refusal::Refusal;
 use tables::{Capacities, KEPT_IDS, KEPT_LOCATIONS, WAITING};
 
 // Before an id becomes pending: where none waits, what counts as held is written as held, and from then on some wait.
@@ -64,7 +63,7 @@ fn pend_slot(slots: usize, slot_marks: &mut [u8], tallies: &mut [u64], location:
     ensures { ◌≡◌ {A = Slots} (record { marks = slot_marks.new; words = tallies.new })
         (pend_slot slots (record { marks = slot_marks.old; words = tallies.old }) location) }
 {
-    let Unpacked::At(address) = SlabAddress::unpack(slots, location) else {
+    let Ok(Some(address)) = SlabAddress::unpack(slots, location) else {
         return;
     };
     let slab = address.slab;
@@ -78,7 +77,7 @@ fn put_owner(slots: usize, owners: &mut [u64], location: u64, id: u64)
     requires { bad_slots slots ≡ false }
     ensures { owners.new ≡ write slots location id owners.old }
 {
-    let Unpacked::At(address) = SlabAddress::unpack(slots, location) else {
+    let Ok(Some(address)) = SlabAddress::unpack(slots, location) else {
         return;
     };
     let slab = address.slab;
@@ -191,7 +190,7 @@ pub fn commit(
     batch: &mut [u64],
     tallies: &mut [u64],
     carried: &mut [u8],
-) -> Finished
+) -> Result<(), Refusal>
     ensures answers { finished_answer result
         ≡ answered commit caps.ids caps.slots
         id_marks.old
@@ -221,14 +220,14 @@ pub fn commit(
     match check(
         caps, id_marks, locations, slot_marks, owners, batch, tallies, carried,
     ) {
-        Rows::Refused(refusal) => Finished::Refused(refusal),
-        Rows::Count(n) => {
+        Err(refusal) => Err(refusal),
+        Ok(n) => {
             apply_rows(
                 caps, id_marks, locations, slot_marks, owners, batch, tallies, n,
             );
             settle_rows(caps.ids, batch, carried, n);
             tables::put(batch, 0, 0, 0);
-            Finished::Done
+            Ok(())
         }
     }
 }

@@ -1,10 +1,10 @@
 -- The outcome tells which answer it is. Assumes nothing.
 use mathlib.Core.Path.{◌≡◌, refl}
 use lib.ListN.{get_or}
-use Rattle.refusal.proofs.Outcomes.{one_by, read_back}
+use Rattle.refusal.proofs.Outcomes.{outcome_one}
 use Rattle.defrag.specs.Outcomes.{defrag_outcome}
-use Rattle.defrag.specs.declared.Defrag.{Defrag}
-use Rattle.defrag.specs.declared.Defrag.TheVariants as D
+use Rattle.std.specs.Prelude.{Result, Ok, Err, ℕ}
+use Rattle.refusal.specs.declared.Refusal.{Refusal}
 
-pub defrag_outcome_one : (a b : Defrag) → defrag_outcome a ≡ defrag_outcome b → a ≡ b
-defrag_outcome_one = one_by defrag_outcome (read_back (λ vs. D.Rows (get_or vs 0 0)) D.Refused) λ d. elim d as (λ k. (read_back (λ vs. D.Rows (get_or vs 0 0)) D.Refused) (defrag_outcome k) ≡ k) [ D.Rows n ↦ refl | D.Refused r ↦ refl ]
+pub defrag_outcome_one : (a b : Result ℕ Refusal) → defrag_outcome a ≡ defrag_outcome b → a ≡ b
+defrag_outcome_one = outcome_one _ (λ vs. (get_or vs 0 0)) (λ _. refl)

@@ -20,12 +20,12 @@ use Rattle.marks.proofs.LawsCount.{live_le_tip, tip_le}
 use Rattle.id_allocator.proofs.LawsHinted.{hinted_length}
 use Rattle.fragmentation.specs.Cutoff.{is_ratio, cutoff}
 use Rattle.fragmentation.specs.Answer.{cutoff_of}
-use Rattle.fragmentation.specs.declared.Cutoff.TheVariants as C
 use Rattle.fragmentation.proofs.LawsCutoff.{cutoff_le}
 use Rattle.model.specs.Memory.{get_word, hint_words, used_words}
 use Rattle.defrag.specs.Listed.{start_of, marks_of, tip_in, span_of, listed_of, rows_in, slab_rows, listed_from}
 use Rattle.defrag.specs.declared.slabs.Span.{Span}
 use Rattle.defrag.proofs.Written.{listed_of_le}
+use Rattle.std.specs.Prelude.{Ok, Some, None}
 
 -- ---- a slab's part
 
@@ -47,7 +47,7 @@ pub start_is : (live tip : ℕ) (r : Float) → live ≤ tip → tip ≤ most_sl
 unfolding cutoff_of
 start_is live tip r a b q = simp (le-ltb most_slots tip b, le-ltb tip live a, q) (go (ltb (cutoff live tip r) tip) refl)
   where
-    go : (x : Bool) → ltb (cutoff live tip r) tip ≡ x → start_of (cond x (C.From (cutoff live tip r)) C.Nothing) tip ≡ cutoff live tip r
+    go : (x : Bool) → ltb (cutoff live tip r) tip ≡ x → start_of (cond x (Ok (Some (cutoff live tip r))) (Ok None)) tip ≡ cutoff live tip r
     go true e = refl
     go false e = let h = ltb-false (cutoff live tip r) tip e in omega (arith, cutoff_le live tip r)
 

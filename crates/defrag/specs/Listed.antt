@@ -1,16 +1,15 @@
 -- The rows of a defrag list by the lent tables. Nothing here has to be believed: proofs/Moves.antt shows that they are the model's. Assumes nothing.
-use Rattle.std.specs.Prelude.{Bool, ◌&&◌, List, [], ◌∷◌, ◌++◌, ℕ, zero, suc, ◌+◌, ◌-◌, ◌*◌, ltb, eqb, length, get_or, take, drop, Float}
+use Rattle.std.specs.Prelude.{Bool, ◌&&◌, List, [], ◌∷◌, ◌++◌, ℕ, zero, suc, ◌+◌, ◌-◌, ◌*◌, ltb, eqb, length, get_or, take, drop, Float, Result, Ok, Err, Option, Some, None}
 use Rattle.list_parts.specs.Parts.{part}
 use Rattle.address.specs.Address.{packing}
 use Rattle.marks.specs.Marks.{is_taken, count_if, tip}
 use Rattle.id_allocator.specs.Counted.{hinted}
 use Rattle.fragmentation.specs.Cutoff.{cutoff}
-use Rattle.fragmentation.specs.declared.Cutoff.{Cutoff}
-use Rattle.fragmentation.specs.declared.Cutoff.TheVariants as C
 use Rattle.model.specs.Store.{Row}
 use Rattle.model.specs.Defrag.{cons_if}
 use Rattle.model.specs.Memory.{get_word, used_words, hint_words}
 use Rattle.defrag.specs.declared.slabs.Span.{Span}
+use Rattle.refusal.specs.declared.Refusal.{Refusal}
 
 -- ---- slots
 
@@ -27,10 +26,10 @@ listed_of locations l (o ∷ os) = row_of locations l o ++ listed_of locations (
 
 -- ---- slabs
 
-abbrev pub start_of : Cutoff → ℕ → ℕ
-start_of (C.From n) t = n
-start_of C.Nothing t = t
-start_of (C.Refused r) t = t
+abbrev pub start_of : Result (Option ℕ) Refusal → ℕ → ℕ
+start_of (Ok (Some n)) t = n
+start_of (Ok None) t = t
+start_of (Err r) t = t
 
 -- a slab's marks as they count, but that pending ones are not told from held ones
 abbrev pub marks_of : ℕ → List ℕ → List ℕ → ℕ → List ℕ

@@ -3,8 +3,8 @@
 //
 //     // moved_ids, moved_locations: caps.ids - 1 rows each
 //     match defrag::objects_to_defrag(caps, &locations, &slot_marks, &owners, &batch, &tallies, 0.75, &mut moved_ids, &mut moved_locations) {
-//         Defrag::Rows(n) => ..,           // the first n rows, by slab, then slot
-//         Defrag::Refused(refusal) => ..,  // 1, 11, 14
+//         Ok(n) => ..,           // the first n rows, by slab, then slot
+//         Err(refusal) => ..,  // 1, 11, 14
 //     }
 //
 // Rows past the count keep what they held. One pass over the slots between a slab's cutoff and its tip; the marks of a slab are
@@ -18,17 +18,11 @@ ghost use Rattle.model.specs.Lent.{fits_by, answered};
 ghost use Rattle.model.specs.Outcomes.{outcome_of, list_in};
 ghost use Rattle.defrag.specs.Outcomes.{defrag_outcome};
 
-use refusal::Refusal;
+use refusal::{Kind, Refusal};
 use tables::Capacities;
 
 mod rows;
 mod slabs;
-
-#[derive(Clone, Copy)]
-pub enum Defrag {
-    Rows(usize),
-    Refused(Refusal),
-}
 
 // Refusal 1.
 fn fits(
@@ -60,7 +54,7 @@ pub fn objects_to_defrag(
     r: f32,
     moved_ids: &mut [u64],
     moved_locations: &mut [u64],
-) -> Defrag
+) -> Result<usize, Refusal>
     ensures { (defrag_outcome result
         ≡ outcome_of (answered (ask (defrag r moved_ids.old moved_locations.old))
         caps.ids caps.slots
@@ -98,16 +92,16 @@ pub fn objects_to_defrag(
         moved_ids.len(),
         moved_locations.len(),
     ) {
-        return Defrag::Refused(Refusal::of(Refusal::WRONG_SHAPE));
+        return Err(Refusal::of(Kind::WrongShape));
     }
     if tables::get(batch, 0, 0) != 0 {
-        return Defrag::Refused(Refusal::of(Refusal::BATCH_OPEN));
+        return Err(Refusal::of(Kind::BatchOpen));
     }
     if fragmentation::bad_ratio(r) {
-        return Defrag::Refused(Refusal::of(Refusal::RATIO_OUT_OF_RANGE));
+        return Err(Refusal::of(Kind::RatioOutOfRange));
     }
     let slots = caps.slots;
-    Defrag::Rows(slabs::list_all(
+    Ok(slabs::list_all(
         slots,
         locations,
         slot_marks,

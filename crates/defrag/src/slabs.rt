@@ -6,9 +6,9 @@ ghost use Rattle.fragmentation.specs.Cutoff.{is_ratio};
 ghost use Rattle.model.specs.Tables.{ids_of, locations_of};
 ghost use Rattle.defrag.specs.Listed.{start_of, span_of, slab_rows, listed_from};
 
+use refusal::Refusal;
 use crate::rows::add_rows;
-use address::{Made, Packed, SlabAddress};
-use fragmentation::Cutoff;
+use address::SlabAddress;
 
 // The slots of a slab to look at: from the first on, below the tip.
 #[derive(Clone, Copy)]
@@ -17,13 +17,13 @@ pub struct Span {
     pub tip: usize,
 }
 
-fn start(cutoff: Cutoff, tip: usize) -> usize
+fn start(cutoff: Result<Option<usize>, Refusal>, tip: usize) -> usize
     ensures { result ≡ start_of cutoff tip }
 {
     match cutoff {
-        Cutoff::From(slot) => slot,
-        Cutoff::Nothing => tip,
-        Cutoff::Refused(_) => tip,
+        Ok(Some(slot)) => slot,
+        Ok(None) => tip,
+        Err(_) => tip,
     }
 }
 
@@ -31,10 +31,10 @@ fn start(cutoff: Cutoff, tip: usize) -> usize
 fn first_location(slots: usize, slab: usize) -> u64
     ensures { result ≡ location_in (packed slots (record { slab = slab; slot = 0 })) }
 {
-    let Made::At(address) = SlabAddress::from_slab_slot(slab, 0) else {
+    let Ok(address) = SlabAddress::from_slab_slot(slab, 0) else {
         return 0;
     };
-    let Packed::Location(location) = address.pack(slots) else {
+    let Ok(location) = address.pack(slots) else {
         return 0;
     };
     location

@@ -7,8 +7,6 @@ use lib.ListN.{length, set, drop}
 use lib.Seq.{sets, sets-eq, drop-length}
 use borrow.Author.Tests.{eq-eqb, ne_eqb}
 use Rattle.refusal.specs.Outcomes.{Values, refused, finished_outcome}
-use Rattle.refusal.specs.declared.Finished.{Finished}
-use Rattle.refusal.specs.declared.Finished.TheVariants as F
 use Rattle.model.specs.Store.{Offer, offer, Answer}
 use Rattle.model.specs.Batches.{taken_by, updates_in}
 use Rattle.model.specs.Columns.{offered_column}
@@ -17,8 +15,6 @@ use Rattle.model.specs.MemoryAfter.{with_kept, with_slots, memory_offer, memory_
 use Rattle.model.specs.Outcomes.{outcome_of}
 use Rattle.model.specs.Step.{refusal, unless}
 use Rattle.model.specs.Verdict.{Verdict, ok, refuse}
-use Rattle.lookup.specs.declared.Looked.{Looked}
-use Rattle.lookup.specs.declared.Looked.TheVariants as L
 use Rattle.lookup.specs.Lookup.{looked_answer}
 use Rattle.lookup_page.specs.Page as Page
 use Rattle.offer.specs.Outcome.{Left, offered_answer}
@@ -27,6 +23,8 @@ use Rattle.snapshot_writer.specs.Outcome.{written_answer}
 use Rattle.exports_status.specs.Status.{status_of, values_in, exported}
 use Rattle.exports.specs.Answers.{where_fits}
 use Rattle.exports.specs.Pages.{ExportedPage, exported_page}
+use Rattle.std.specs.Prelude.{Result, Ok, Err, ⊤}
+use Rattle.refusal.specs.declared.Refusal.{Refusal}
 
 -- an index below 2^56 comes back from a status
 pub status_exact : (number index : ℕ) → number < 256 → index < 2 ^ 56 → status_of (refused number index) ≡ number + 256 * index
@@ -76,14 +74,14 @@ module _ {E : Type 0} (says : E → Answer) (e e' : E) (a : Answer) (p : says e 
 
 -- a lookup's status and value do not depend on the row, which its other promise tells
 pub looked_exported :
-    (r r' : Looked) (row left : List ℕ) (a : Answer) → row ≡ left → looked_answer r row ≡ a → r ≡ r' → (lent : List ℕ) (s : ℕ) (l : List ℕ) → length lent ≡ 1
+    (r r' : Result ℕ Refusal) (row left : List ℕ) (a : Answer) → row ≡ left → looked_answer r row ≡ a → r ≡ r' → (lent : List ℕ) (s : ℕ) (l : List ℕ) → length lent ≡ 1
     → status_of (outcome_of (looked_answer r' [])) ≡ s → values_in (outcome_of (looked_answer r' [])) lent ≡ l → record { status = s; lent = l } ≡ exported 1 (outcome_of a) lent
 looked_exported r r' row left a k p q lent s l h u v =
-    told_exported (λ (x : Looked). looked_answer x row) r r' a p q 1 lent s l h (ap status_of (any r') ∙ u) (ap (λ (x : Values). values_in x lent) (any r') ∙ v)
+    told_exported (λ (x : Result ℕ Refusal). looked_answer x row) r r' a p q 1 lent s l h (ap status_of (any r') ∙ u) (ap (λ (x : Values). values_in x lent) (any r') ∙ v)
   where
-    any : (x : Looked) → outcome_of (looked_answer x row) ≡ outcome_of (looked_answer x [])
-    any (L.Location location) = refl
-    any (L.Refused r) = refl
+    any : (x : Result ℕ Refusal) → outcome_of (looked_answer x row) ≡ outcome_of (looked_answer x [])
+    any (Ok location) = refl
+    any (Err r) = refl
 
 module _ {A : Type 0} (n : ℕ) (lent : List ℕ) (after before : A) where
   pub where_fits_fits : length lent ≡ n → after ≡ where_fits n lent after before
@@ -96,32 +94,32 @@ module _ {A : Type 0} (n : ℕ) (lent : List ℕ) (after before : A) where
 
 -- an offer's status does not depend on the locations
 pub offered_status :
-    (o o' : Finished) (sm b t c ls : List ℕ) (w : Left)
+    (o o' : Result ⊤ Refusal) (sm b t c ls : List ℕ) (w : Left)
     → record { answer = offered_answer o ls; slot_marks = sm; batch = b; tallies = t; carried = c; placed = ls } ≡ w → o ≡ o'
     → status_of (outcome_of (offered_answer o' [])) ≡ status_of (outcome_of w.answer)
-offered_status o o' sm b t c ls w e q = any o' ∙ told_status (λ (x : Finished). offered_answer x ls) o o' w.answer (ap (λ (x : Left). x.answer) e) q
+offered_status o o' sm b t c ls w e q = any o' ∙ told_status (λ (x : Result ⊤ Refusal). offered_answer x ls) o o' w.answer (ap (λ (x : Left). x.answer) e) q
   where
-    any : (x : Finished) → status_of (outcome_of (offered_answer x [])) ≡ status_of (outcome_of (offered_answer x ls))
-    any F.Done = refl
-    any (F.Refused r) = refl
+    any : (x : Result ⊤ Refusal) → status_of (outcome_of (offered_answer x [])) ≡ status_of (outcome_of (offered_answer x ls))
+    any (Ok tt) = refl
+    any (Err r) = refl
 
 -- nor does that of a snapshot on the file
 pub written_status :
-    (o o' : Finished) (file : List ℕ) (w : Written.Left) → record { answer = written_answer o file; file = file } ≡ w → o ≡ o'
+    (o o' : Result ⊤ Refusal) (file : List ℕ) (w : Written.Left) → record { answer = written_answer o file; file = file } ≡ w → o ≡ o'
     → status_of (outcome_of (written_answer o' [])) ≡ status_of (outcome_of w.answer)
-written_status o o' file w e q = any o' ∙ told_status (λ (x : Finished). written_answer x file) o o' w.answer (ap (λ (x : Written.Left). x.answer) e) q
+written_status o o' file w e q = any o' ∙ told_status (λ (x : Result ⊤ Refusal). written_answer x file) o o' w.answer (ap (λ (x : Written.Left). x.answer) e) q
   where
-    any : (x : Finished) → status_of (outcome_of (written_answer x [])) ≡ status_of (outcome_of (written_answer x file))
-    any F.Done = refl
-    any (F.Refused r) = refl
+    any : (x : Result ⊤ Refusal) → status_of (outcome_of (written_answer x [])) ≡ status_of (outcome_of (written_answer x file))
+    any (Ok tt) = refl
+    any (Err r) = refl
 
 -- a page's status is that of its outcome
 pub page_exported :
-    (o o' : Finished) (numbers locations carried : List ℕ) (l : Page.Left) (s : ℕ)
+    (o o' : Result ⊤ Refusal) (numbers locations carried : List ℕ) (l : Page.Left) (s : ℕ)
     → record { outcome = finished_outcome o; numbers = numbers; locations = locations; carried = carried } ≡ l → o ≡ o' → status_of (finished_outcome o') ≡ s
     → ◌≡◌ {A = ExportedPage} (record { status = s; numbers = numbers; locations = locations; carried = carried }) (exported_page l)
 page_exported o o' numbers locations carried l s e q u =
-    (λ k. record { status = (sym u ∙ sym (ap (λ (x : Finished). status_of (finished_outcome x)) q)) k; numbers = numbers; locations = locations; carried = carried })
+    (λ k. record { status = (sym u ∙ sym (ap (λ (x : Result ⊤ Refusal). status_of (finished_outcome x)) q)) k; numbers = numbers; locations = locations; carried = carried })
     ∙ ap exported_page e
 
 -- an offer changes four tables

@@ -8,7 +8,6 @@ ghost use Rattle.model.specs.Outcomes.{outcome_of, list_in};
 ghost use Rattle.exports_status.specs.Status.{status_of};
 
 use exports_status::status;
-use refusal::Finished;
 use tables::Capacities;
 
 // Takes a slot for each Store of a batch, and keeps what each row is to carry, one row after the other. Of `stores` a byte of 0 is a Free, any other a Store.
@@ -103,8 +102,8 @@ pub fn wentuhoro_offer(
         update_carried,
         placed,
     ) {
-        Finished::Done => 0,
-        Finished::Refused(r) => status(r),
+        Ok(()) => 0,
+        Err(r) => status(r),
     }
 }
 
@@ -149,8 +148,8 @@ pub fn wentuhoro_commit(
     match commit::commit(
         caps, id_marks, locations, slot_marks, owners, batch, tallies, carried,
     ) {
-        Finished::Done => 0,
-        Finished::Refused(r) => status(r),
+        Ok(()) => 0,
+        Err(r) => status(r),
     }
 }
 
@@ -177,8 +176,8 @@ pub fn wentuhoro_abandon(
 {
     let caps = Capacities { ids, slots };
     match abandon::abandon(caps, slot_marks, batch, tallies) {
-        Finished::Done => 0,
-        Finished::Refused(r) => status(r),
+        Ok(()) => 0,
+        Err(r) => status(r),
     }
 }
 
@@ -209,7 +208,7 @@ pub fn wentuhoro_release(
 {
     let caps = Capacities { ids, slots };
     match release::release(caps, id_marks, slot_marks, batch, tallies) {
-        Finished::Done => 0,
-        Finished::Refused(r) => status(r),
+        Ok(()) => 0,
+        Err(r) => status(r),
     }
 }

@@ -15,13 +15,10 @@ ghost use Rattle.fragmentation.specs.Outcomes.{cutoff_outcome};
 ghost use Rattle.exports_status.specs.Status.{status_of, or_zeros, Exported, exported};
 
 use crate::values;
-use address::{Packed, SlabAddress, Unpacked};
+use address::SlabAddress;
 use exports_status::{WRONG_LENGTH, status};
-use fragmentation::Cutoff;
-use frame::{Slab, Verdict};
-use refusal::{Finished, Judged};
+use frame::Slab;
 use settings::PersistentSettings;
-use sizes::Class;
 
 // The constant table of slab sizes: 78 values.
 pub fn wentuhoro_slab_sizes(sizes: &mut [u64]) -> u64
@@ -44,11 +41,11 @@ pub fn wentuhoro_class(n: u64, slab: &mut [u64]) -> u64
         return WRONG_LENGTH;
     }
     match sizes::slab_for_size(n) {
-        Class::Slab(k) => {
+        Ok(k) => {
             slab[0] = k as u64;
             0
         }
-        Class::Refused(r) => status(r),
+        Err(r) => status(r),
     }
 }
 
@@ -72,8 +69,8 @@ pub fn wentuhoro_frame_write(slot: &mut [u8], object: &[u8]) -> u64
         × (slot.new ≡ (writing slot.old object.now).slot) }
 {
     match Slab::write(slot, object) {
-        Finished::Done => 0,
-        Finished::Refused(r) => status(r),
+        Ok(()) => 0,
+        Err(r) => status(r),
     }
 }
 
@@ -86,11 +83,11 @@ pub fn wentuhoro_frame_read(slot: &[u8], length: &mut [u64]) -> u64
         return WRONG_LENGTH;
     }
     match Slab::verdict(slot) {
-        Verdict::Object(n) => {
+        Ok(n) => {
             length[0] = n as u64;
             0
         }
-        Verdict::Refused(r) => status(r),
+        Err(r) => status(r),
     }
 }
 
@@ -100,8 +97,8 @@ pub fn wentuhoro_cookie_write(leaf_fanout: u64, cookie: &mut [u8]) -> u64
         × (cookie.new ≡ (storing leaf_fanout cookie.old).cookie) }
 {
     match PersistentSettings::serialize(leaf_fanout, cookie) {
-        Finished::Done => 0,
-        Finished::Refused(r) => status(r),
+        Ok(()) => 0,
+        Err(r) => status(r),
     }
 }
 
@@ -127,8 +124,8 @@ pub fn wentuhoro_cookie_verify(cookie: &[u8], leaf_fanout: u64) -> u64
     ensures { result ≡ status_of (judged_outcome (agreement leaf_fanout (settings_of cookie.now))) }
 {
     match PersistentSettings::verify(cookie, leaf_fanout) {
-        Judged::Passed => 0,
-        Judged::Refused(r) => status(r),
+        Ok(()) => 0,
+        Err(r) => status(r),
     }
 }
 
@@ -142,11 +139,11 @@ pub fn wentuhoro_pack(slots: usize, slab: usize, slot: usize, location: &mut [u6
     }
     let address = SlabAddress { slab, slot };
     match address.pack(slots) {
-        Packed::Location(l) => {
+        Ok(l) => {
             location[0] = l;
             0
         }
-        Packed::Refused(r) => status(r),
+        Err(r) => status(r),
     }
 }
 
@@ -159,15 +156,15 @@ pub fn wentuhoro_unpack(slots: usize, location: u64, address: &mut [u64]) -> u64
         return WRONG_LENGTH;
     }
     match SlabAddress::unpack(slots, location) {
-        Unpacked::At(a) => {
+        Ok(Some(a)) => {
             values::three(address, 1, a.slab as u64, a.slot as u64);
             0
         }
-        Unpacked::NoObject => {
+        Ok(None) => {
             values::three(address, 0, 0, 0);
             0
         }
-        Unpacked::Refused(r) => status(r),
+        Err(r) => status(r),
     }
 }
 
@@ -185,14 +182,14 @@ pub fn wentuhoro_fragmentation_cutoff(
         return WRONG_LENGTH;
     }
     match fragmentation::fragmentation_cutoff(live, tip, ratio) {
-        Cutoff::From(slot) => {
+        Ok(Some(slot)) => {
             values::two(cutoff, 1, slot as u64);
             0
         }
-        Cutoff::Nothing => {
+        Ok(None) => {
             values::two(cutoff, 0, 0);
             0
         }
-        Cutoff::Refused(r) => status(r),
+        Err(r) => status(r),
     }
 }

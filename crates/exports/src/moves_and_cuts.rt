@@ -8,11 +8,8 @@ ghost use Rattle.exports_status.specs.Status.{status_of, Exported, exported};
 ghost use Rattle.exports.specs.Answers.{where_fits};
 
 use crate::values;
-use defrag::Defrag;
 use exports_status::{WRONG_LENGTH, status};
-use refusal::Finished;
 use tables::Capacities;
-use truncation::Truncated;
 
 // The objects to move, by slab, then slot, in the first rows of two lists of ids - 1 rows. One value: how many rows.
 pub fn wentuhoro_defrag(
@@ -72,11 +69,11 @@ pub fn wentuhoro_defrag(
         moved_ids,
         moved_locations,
     ) {
-        Defrag::Rows(rows) => {
+        Ok(rows) => {
             count[0] = rows as u64;
             0
         }
-        Defrag::Refused(r) => status(r),
+        Err(r) => status(r),
     }
 }
 
@@ -117,15 +114,15 @@ pub fn wentuhoro_truncation(
     }
     let caps = Capacities { ids, slots };
     match truncation::truncation(caps, slot_marks, batch, tallies, slab, t) {
-        Truncated::Cut { length, given_back } => {
+        Ok(Some(Cut { length, given_back })) => {
             values::three(cut, 1, length, given_back);
             0
         }
-        Truncated::Keep => {
+        Ok(None) => {
             values::three(cut, 0, 0, 0);
             0
         }
-        Truncated::Refused(r) => status(r),
+        Err(r) => status(r),
     }
 }
 
@@ -154,7 +151,7 @@ pub fn wentuhoro_cut_done(
 {
     let caps = Capacities { ids, slots };
     match truncation::cut_done(caps, slot_marks, batch, tallies, slab, t) {
-        Finished::Done => 0,
-        Finished::Refused(r) => status(r),
+        Ok(()) => 0,
+        Err(r) => status(r),
     }
 }

@@ -10,8 +10,6 @@ ghost use Rattle.exports.specs.Answers.{where_fits};
 
 use crate::values;
 use exports_status::{WRONG_LENGTH, status};
-use lookup::Looked;
-use object_ids::{Counted, NewId};
 use tables::Capacities;
 
 // The smallest free id above 0, held from now on. One value.
@@ -48,11 +46,11 @@ pub fn wentuhoro_new_id(
     }
     let caps = Capacities { ids, slots };
     match object_ids::allocate_object_id(caps, id_marks, batch, tallies) {
-        NewId::Id(found) => {
+        Ok(found) => {
             id[0] = found;
             0
         }
-        NewId::Refused(r) => status(r),
+        Err(r) => status(r),
     }
 }
 
@@ -98,11 +96,11 @@ pub fn wentuhoro_lookup(
     match lookup::get_location_for_object(
         caps, id_marks, locations, slot_marks, owners, tallies, carried, id, row,
     ) {
-        Looked::Location(l) => {
+        Ok(l) => {
             location[0] = l;
             0
         }
-        Looked::Refused(r) => status(r),
+        Err(r) => status(r),
     }
 }
 
@@ -118,7 +116,7 @@ pub fn wentuhoro_stats(ids: usize, slots: usize, tallies: &[u64], sums: &mut [u6
     }
     let caps = Capacities { ids, slots };
     match object_ids::stats(caps, tallies) {
-        Counted::Stats(stats) => {
+        Ok(stats) => {
             values::four(
                 sums,
                 stats.objects_allocated,
@@ -128,7 +126,7 @@ pub fn wentuhoro_stats(ids: usize, slots: usize, tallies: &[u64], sums: &mut [u6
             );
             0
         }
-        Counted::Refused(r) => status(r),
+        Err(r) => status(r),
     }
 }
 
@@ -154,7 +152,7 @@ pub fn wentuhoro_counters(
 {
     let caps = Capacities { ids, slots };
     match object_ids::counters(caps, tallies, granted, freed) {
-        Counted::Stats(_) => 0,
-        Counted::Refused(r) => status(r),
+        Ok(_) => 0,
+        Err(r) => status(r),
     }
 }

@@ -4,7 +4,6 @@ ghost use Rattle.lookup_page.specs.Page.{page, page_leaves};
 ghost use Rattle.exports.specs.Pages.{ExportedPage, exported_page};
 
 use exports_status::status;
-use refusal::Finished;
 use tables::Capacities;
 
 // What a lookup answers of each id, in the order asked: its number, its location and what its row carries.
@@ -37,7 +36,7 @@ pub fn wentuhoro_lookup_page(
         caps, id_marks, locations, slot_marks, owners, tallies, carried, asked, numbers, found,
         rows,
     ) {
-        Finished::Done => 0,
-        Finished::Refused(r) => status(r),
+        Ok(()) => 0,
+        Err(r) => status(r),
     }
 }

@@ -13,10 +13,7 @@ ghost use Rattle.exports.specs.Answers.{where_fits};
 
 use crate::values;
 use exports_status::{WRONG_LENGTH, status};
-use refusal::Finished;
-use snapshot::{Position, Step};
-use snapshot_lists::Taken;
-use snapshot_writer::Measured;
+use snapshot::Position;
 use tables::Capacities;
 
 // How many bytes a snapshot of the store takes. One value.
@@ -42,11 +39,11 @@ pub fn wentuhoro_snapshot_length(
     }
     let caps = Capacities { ids, slots };
     match snapshot_writer::snapshot_length(caps, id_marks, locations, batch, tallies) {
-        Measured::Bytes(n) => {
+        Ok(n) => {
             length[0] = n as u64;
             0
         }
-        Measured::Refused(r) => status(r),
+        Err(r) => status(r),
     }
 }
 
@@ -85,8 +82,8 @@ pub fn wentuhoro_snapshot_write(
     match snapshot_writer::snapshot_write(
         caps, id_marks, locations, slot_marks, owners, batch, tallies, carried, file,
     ) {
-        Finished::Done => 0,
-        Finished::Refused(r) => status(r),
+        Ok(()) => 0,
+        Err(r) => status(r),
     }
 }
 
@@ -101,7 +98,7 @@ pub fn wentuhoro_snapshot_step(file: &[u8], block: usize, row: usize, values: &m
     }
     let at = Position { block, row };
     match at.step(file) {
-        Step::Row(found, next) => {
+        Ok(Some((found, next))) => {
             values::eight(
                 values,
                 1,
@@ -115,11 +112,11 @@ pub fn wentuhoro_snapshot_step(file: &[u8], block: usize, row: usize, values: &m
             );
             0
         }
-        Step::End => {
+        Ok(None) => {
             values::eight(values, 0, 0, 0, 0, 0, 0, 0, 0);
             0
         }
-        Step::Refused(r) => status(r),
+        Err(r) => status(r),
     }
 }
 
@@ -153,10 +150,10 @@ pub fn wentuhoro_snapshot_read(
         return WRONG_LENGTH;
     }
     match snapshot_lists::read(file, row_ids, row_locations, row_carried) {
-        Taken::Rows(n) => {
+        Ok(n) => {
             rows[0] = n as u64;
             0
         }
-        Taken::Refused(r) => status(r),
+        Err(r) => status(r),
     }
 }

@@ -7,7 +7,6 @@ ghost use Rattle.model.specs.Outcomes.{outcome_of};
 ghost use Rattle.exports_status.specs.Status.{status_of};
 
 use exports_status::status;
-use refusal::Finished;
 use tables::Capacities;
 
 // A store that holds nothing.
@@ -51,8 +50,8 @@ pub fn wentuhoro_fresh(
     match rebuild::fresh(
         caps, id_marks, locations, slot_marks, owners, batch, tallies, carried,
     ) {
-        Finished::Done => 0,
-        Finished::Refused(r) => status(r),
+        Ok(()) => 0,
+        Err(r) => status(r),
     }
 }
 
@@ -115,7 +114,7 @@ pub fn wentuhoro_rebuild(
         row_locations,
         row_carried,
     ) {
-        Finished::Done => 0,
-        Finished::Refused(r) => status(r),
+        Ok(()) => 0,
+        Err(r) => status(r),
     }
 }

@@ -1,6 +1,6 @@
 // A refusal as one number: the convention of every exported call.
 //
-//     exports_status::status(Refusal::at(Refusal::REPEATED_ID, 3))  // 9 + 256 * 3
+//     exports_status::status(Refusal::at(Kind::RepeatedId, 3))  // 9 + 256 * 3
 //
 // 0 grants; else a status is the refusal's number plus 256 times its index.
 #![tactic(auto)]
@@ -9,7 +9,7 @@ ghost use Rattle.std.specs.Prelude.{◌≡◌};
 ghost use Rattle.refusal.specs.Outcomes.{refused_as};
 ghost use Rattle.exports_status.specs.Status.{status_of};
 
-use refusal::Refusal;
+use refusal::{Kind, Refusal};
 
 // The status where a lent slice has another number of words than there are values.
 pub const WRONG_LENGTH: u64 = 1;

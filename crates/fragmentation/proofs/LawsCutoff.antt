@@ -10,7 +10,7 @@ use borrow.Author.Tests.{lt-ltb, le-ltb}
 use Rattle.address.specs.Address.{most_slots}
 use Rattle.fragmentation.specs.Cutoff.{float, quotient, is_ratio, cutoff}
 use Rattle.fragmentation.specs.Answer.{cutoff_of}
-use Rattle.fragmentation.specs.declared.Cutoff.TheVariants.{From, Nothing}
+use Rattle.std.specs.Prelude.{Ok, Some, None}
 
 -- ---- cutoff
 module _ (live tip : ℕ) (r : Float) where
@@ -35,10 +35,10 @@ module _ (live tip : ℕ) (r : Float) where
 
 -- ---- cutoff_of, of the counts of a slab and a fill ratio
 module _ (live tip : ℕ) (r : Float) (h : ltb most_slots tip ≡ false) (l : ltb tip live ≡ false) (g : not (is_ratio r) ≡ false) where
-  pub cutoff_of_from : (n : ℕ) → cutoff live tip r ≡ n → n < tip → cutoff_of live tip r ≡ From n
+  pub cutoff_of_from : (n : ℕ) → cutoff live tip r ≡ n → n < tip → cutoff_of live tip r ≡ Ok (Some n)
   unfolding cutoff_of
   cutoff_of_from n e b = simp (h, l, g, e, lt-ltb n tip b)
 
-  pub cutoff_of_nothing : cutoff live tip r ≡ tip → cutoff_of live tip r ≡ Nothing
+  pub cutoff_of_nothing : cutoff live tip r ≡ tip → cutoff_of live tip r ≡ (Ok None)
   unfolding cutoff_of
   cutoff_of_nothing e = simp (h, l, g, e, le-ltb tip tip (omega arith))

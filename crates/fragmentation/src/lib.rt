@@ -2,9 +2,9 @@
 // "Defrag and truncation").
 //
 //     match fragmentation::fragmentation_cutoff(3, 8, 0.75) {
-//         Cutoff::From(slot) => ..,        // slot 4
-//         Cutoff::Nothing => ..,           // full enough, or no slot below the tip
-//         Cutoff::Refused(refusal) => ..,  // 1, these are no counts of a slab; 14, this is no fill ratio
+//         Ok(Some(slot)) => ..,        // slot 4
+//         Ok(None) => ..,           // full enough, or no slot below the tip
+//         Err(refusal) => ..,  // 1, these are no counts of a slab; 14, this is no fill ratio
 //     }
 #![tactic(auto)]
 
@@ -15,20 +15,13 @@ ghost use Rattle.fragmentation.specs.Cutoff.{is_ratio};
 ghost use Rattle.fragmentation.specs.Answer.{cutoff_of};
 
 use address::SlabAddress;
-use refusal::Refusal;
+use refusal::{Kind, Refusal};
 
 // The weight of the exponent's field in the bits of an f32, and of the leading digit, which the bits leave out.
 const LEADING: u32 = 0x80_0000;
 
 // The field of an exponent at which the digits count ones.
 const ONES: u32 = 150;
-
-#[derive(Clone, Copy)]
-pub enum Cutoff {
-    From(usize),
-    Nothing,
-    Refused(Refusal),
-}
 
 // Whether r is no fill ratio: finite, above 0 and at most 1 are.
 pub fn bad_ratio(r: f32) -> bool
@@ -54,28 +47,28 @@ fn cut(x: f32) -> usize
 }
 
 // Where a slab with `live` numbers taken below `tip` is filled less than r: the first slot to look at.
-pub fn fragmentation_cutoff(live: usize, tip: usize, r: f32) -> Cutoff
+pub fn fragmentation_cutoff(live: usize, tip: usize, r: f32) -> Result<Option<usize>, Refusal>
     ensures { result ≡ cutoff_of live tip r }
 {
     if tip > SlabAddress::MOST_SLOTS || live > tip {
-        return Cutoff::Refused(Refusal {
-            number: Refusal::WRONG_SHAPE,
+        return Err(Refusal {
+            kind: Kind::WrongShape,
             index: 0,
         });
     }
     if bad_ratio(r) {
-        return Cutoff::Refused(Refusal {
-            number: Refusal::RATIO_OUT_OF_RANGE,
+        return Err(Refusal {
+            kind: Kind::RatioOutOfRange,
             index: 0,
         });
     }
     let taken = live as f32;
     if r <= taken / (tip as f32) {
-        return Cutoff::Nothing;
+        return Ok(None);
     }
     let from = cut(taken / r);
     if from < tip {
-        return Cutoff::From(from);
+        return Ok(Some(from));
     }
-    Cutoff::Nothing
+    Ok(None)
 }

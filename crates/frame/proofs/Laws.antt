@@ -20,8 +20,8 @@ use Rattle.zeros.proofs.Laws.{all_zero_replicate, replicate_all_zero}
 use Rattle.seal.specs.Seal.{check_of, signed, is_signed, resigned, body_of}
 use Rattle.seal.proofs.Laws.{length_signed, is_signed_signed, signed_is_signed, resigned_body}
 use Rattle.frame.specs.Frame.{body, framed, stored_length, gap_of, verdict_of, object_part}
-use Rattle.frame.specs.declared.Verdict.{Verdict}
-use Rattle.frame.specs.declared.Verdict.TheVariants as R
+use Rattle.std.specs.Prelude.{Result, Ok, Err}
+use Rattle.refusal.specs.declared.Refusal.{Refusal}
 
 -- ---- body: the object, the gap, the length
 abbrev gap : ℕ → List ℕ → List ℕ
@@ -123,12 +123,12 @@ pub record Accepted (slot : List ℕ) (n : ℕ) : Type 0 where
   pub fits : n ≤ longest_object (length slot)
   pub blank : all_zero (gap_of slot) ≡ true
 
-pub verdict_accepted : (slot : List ℕ) (n : ℕ) → verdict_of slot ≡ R.Object n → Accepted slot n
+pub verdict_accepted : (slot : List ℕ) (n : ℕ) → verdict_of slot ≡ Ok n → Accepted slot n
 unfolding verdict_of
 verdict_accepted slot n = by (is_slab_size (length slot)) (is_signed slot) (ltb (longest_object (length slot)) (stored_length slot)) (all_zero (gap_of slot)) refl refl refl refl
   where
     by : (k i l z : Bool) → is_slab_size (length slot) ≡ k → is_signed slot ≡ i → ltb (longest_object (length slot)) (stored_length slot) ≡ l → all_zero (gap_of slot) ≡ z
-        → cond (not k) (R.Refused (refusal wrong_shape 0)) (cond (not i) (R.Refused (refusal check_differs 0)) (cond l (R.Refused (refusal too_long 0)) (cond (not z) (R.Refused (refusal gap_not_zero 0)) (R.Object (stored_length slot))))) ≡ R.Object n
+        → cond (not k) (Err (refusal wrong_shape 0)) (cond (not i) (Err (refusal check_differs 0)) (cond l (Err (refusal too_long 0)) (cond (not z) (Err (refusal gap_not_zero 0)) (Ok (stored_length slot))))) ≡ Ok n
         → Accepted slot n
     by false i l z p q r b e = let y : ◌≡◌ {A = ℕ} 0 1 = cc in absurd (omega arith)
     by true false l z p q r b e = let y : ◌≡◌ {A = ℕ} 0 1 = cc in absurd (omega arith)
@@ -138,11 +138,11 @@ verdict_accepted slot n = by (is_slab_size (length slot)) (is_signed slot) (ltb 
         let m : stored_length slot ≡ n = cc in
         record { slab = p; intact = q; stored = m; fits = rw m at (ltb-false (longest_object (length slot)) (stored_length slot) r); blank = b }
 
-pub accepted_verdict : (slot : List ℕ) (n : ℕ) → Accepted slot n → verdict_of slot ≡ R.Object n
+pub accepted_verdict : (slot : List ℕ) (n : ℕ) → Accepted slot n → verdict_of slot ≡ Ok n
 unfolding verdict_of
 accepted_verdict slot n a = rw (a.slab, a.intact, a.blank, a.stored, le-ltb (longest_object (length slot)) n a.fits)
 
-pub verdict_within : (slot : List ℕ) (n : ℕ) → verdict_of slot ≡ R.Object n → n ≤ length slot
+pub verdict_within : (slot : List ℕ) (n : ℕ) → verdict_of slot ≡ Ok n → n ≤ length slot
 verdict_within slot n e =
     let a = verdict_accepted slot n e in
     omega (arith, a.fits, longest_object_frame (length slot) a.slab)
@@ -186,7 +186,7 @@ module _ (s : ℕ) (object : List ℕ) (k : is_slab_size s ≡ true) (h : length
       ∙ ap (take (longest_object s - length object)) (drop-append_seam object (gap s object ++ tail))
       ∙ take_at (gap s object) tail (longest_object s - length object) (length-replicate {A = ℕ} (longest_object s - length object) 0))
 
-  pub verdict_framed : Bytes object → verdict_of (framed s object) ≡ R.Object (length object)
+  pub verdict_framed : Bytes object → verdict_of (framed s object) ≡ Ok (length object)
   unfolding framed signed
   verdict_framed b =
       let n = length_framed s object k h in
@@ -202,7 +202,7 @@ module _ (s : ℕ) (object : List ℕ) (k : is_slab_size s ≡ true) (h : length
   pub object_part_framed : Bytes object → object_part (verdict_of (framed s object)) (framed s object) ≡ object
   unfolding object_part
   object_part_framed b =
-      ap (λ (v : Verdict). object_part v (framed s object)) (verdict_framed b)
+      ap (λ (v : Result ℕ Refusal). object_part v (framed s object)) (verdict_framed b)
       ∙ ap (take (length object)) (framed_two s object)
       ∙ take-append_seam object (gap s object ++ (bytes_of (field_width s) (length object) ++ bytes_of check_width (check_of (body s object))))
 

@@ -1,9 +1,7 @@
 -- The outcome of a verdict: the documents' number and values. Assumes nothing.
-use Rattle.std.specs.Prelude.{[], ◌∷◌}
-use Rattle.refusal.specs.Outcomes.{Values, granted, refused_as}
-use Rattle.frame.specs.declared.Verdict.{Verdict}
-use Rattle.frame.specs.declared.Verdict.TheVariants as R
+use Rattle.std.specs.Prelude.{[], ◌∷◌, Result, Ok, Err, ℕ}
+use Rattle.refusal.specs.Outcomes.{Values, outcome_by}
+use Rattle.refusal.specs.declared.Refusal.{Refusal}
 
-abbrev pub verdict_outcome : Verdict → Values
-verdict_outcome (R.Object n) = granted (n ∷ [])
-verdict_outcome (R.Refused r) = refused_as r
+abbrev pub verdict_outcome : Result ℕ Refusal → Values
+verdict_outcome r = outcome_by (λ n. (n ∷ [])) r

@@ -2,12 +2,12 @@
 // exactly if it is what a write of some object gives (request 2026-02).
 //
 //     match Slab::write(slot, object) {
-//         Finished::Done => ..,
-//         Finished::Refused(refusal) => ..,  // 1, no slot has this length; 5, the object is too long; the slot is as it was
+//         Ok(()) => ..,
+//         Err(refusal) => ..,  // 1, no slot has this length; 5, the object is too long; the slot is as it was
 //     }
 //     match Slab::verdict(slot) {
-//         Verdict::Object(n) => .. &slot[..n] ..,
-//         Verdict::Refused(refusal) => ..,  // 1; 4, the check differs; 5, the stored length is too long; 18, the gap is not zero
+//         Ok(n) => .. &slot[..n] ..,
+//         Err(refusal) => ..,  // 1; 4, the check differs; 5, the stored length is too long; 18, the gap is not zero
 //     }
 //
 // `Slab::read(slot)` hands back that part of the slot at once, and the empty part where the verdict refuses. The slot's
@@ -18,19 +18,13 @@ ghost use Rattle.std.specs.Prelude.{true, ◌≡◌, ◌≤◌, length};
 ghost use Rattle.sizes.specs.Sizes.{is_slab_size, longest_object};
 ghost use Rattle.frame.specs.Frame.{Writing, writing, framed, verdict_of, object_part};
 
-use refusal::{Finished, Refusal};
+use refusal::{Kind, Refusal};
 
 // The bytes of the smallest slot.
 const SMALLEST: usize = 64;
 
 #[derive(Clone, Copy)]
 pub struct Slab {}
-
-#[derive(Clone, Copy)]
-pub enum Verdict {
-    Object(usize),
-    Refused(Refusal),
-}
 
 // Whether a slot has this length. The smallest is asked for first: the compiler then drops its own tests whether a frame fits.
 fn is_slot(len: usize) -> bool
@@ -61,47 +55,47 @@ fn lay(slot: &mut [u8], object: &[u8])
 
 impl Slab {
     // Writes the object into the slot.
-    pub fn write(slot: &mut [u8], object: &[u8]) -> Finished
+    pub fn write(slot: &mut [u8], object: &[u8]) -> Result<(), Refusal>
         ensures { ◌≡◌ {A = Writing} (record { answer = result; slot = slot.new })
             (writing slot.old object.now) }
     {
         if !is_slot(slot.len()) {
-            return Finished::Refused(Refusal::of(Refusal::WRONG_SHAPE));
+            return Err(Refusal::of(Kind::WrongShape));
         }
         if longest_in(slot) < object.len() {
-            return Finished::Refused(Refusal::of(Refusal::TOO_LONG));
+            return Err(Refusal::of(Kind::TooLong));
         }
         lay(slot, object);
-        Finished::Done
+        Ok(())
     }
 
     // Whether the slot holds an object, and of which length.
-    pub fn verdict(slot: &[u8]) -> Verdict
+    pub fn verdict(slot: &[u8]) -> Result<usize, Refusal>
         ensures { result ≡ verdict_of slot.now }
     {
         if !is_slot(slot.len()) {
-            return Verdict::Refused(Refusal::of(Refusal::WRONG_SHAPE));
+            return Err(Refusal::of(Kind::WrongShape));
         }
         if !seal::agrees(slot) {
-            return Verdict::Refused(Refusal::of(Refusal::CHECK_DIFFERS));
+            return Err(Refusal::of(Kind::CheckDiffers));
         }
         let start = longest_in(slot);
         let end = slot.len() - seal::CHECK_WIDTH;
         let n = little_endian::get_at(slot, start, end) as usize;
         if start < n {
-            return Verdict::Refused(Refusal::of(Refusal::TOO_LONG));
+            return Err(Refusal::of(Kind::TooLong));
         }
         if !zeros::all_zero(&slot[n..start]) {
-            return Verdict::Refused(Refusal::of(Refusal::GAP_NOT_ZERO));
+            return Err(Refusal::of(Kind::GapNotZero));
         }
-        Verdict::Object(n)
+        Ok(n)
     }
 
     // The object in the slot: the slot's own first bytes.
     pub fn read(slot: &[u8]) -> &[u8]
         ensures { result.now ≡ object_part (verdict_of slot.now) slot.now }
     {
-        let Verdict::Object(n) = Slab::verdict(slot) else {
+        let Ok(n) = Slab::verdict(slot) else {
             return &slot[..0];
         };
         &slot[..n]

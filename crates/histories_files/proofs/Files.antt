@@ -22,7 +22,6 @@ use Rattle.keys.proofs.Brought.{brought_of, kept_of, Wholes, long_in_brought_of,
 use Rattle.snapshot_laws.specs.Reading.{brought_by}
 use Rattle.snapshot_laws.specs.Lent.{Holds}
 use Rattle.snapshot_laws.proofs.Stated.{lists_read}
-use Rattle.snapshot_lists.specs.declared.Taken.TheVariants as T
 use Rattle.snapshot_lists.specs.Lists.{ReadInto, read_into}
 use Rattle.model.specs.Questions.{ask_refusal, reply}
 use Rattle.model.specs.Rebuild.{columns}
@@ -45,6 +44,7 @@ use Rattle.histories.proofs.Same.{never_13}
 use Rattle.histories_files.specs.Statements.{rows_read, SnapshotAgrees, Version1Opens}
 use Rattle.histories_files.proofs.Stored.{row_of, rows, bytes, stored_rows, stored_valid, stored_ascending}
 use Rattle.histories_files.proofs.Opened.{without_keys, finds, next_inv, next_closed, next_count, next_entries}
+use Rattle.std.specs.Prelude.{Ok}
 
 -- ---- writing
 
@@ -101,7 +101,7 @@ snapshot_agrees n m h file ids locations carried memory c a b e room same-locati
     let agreed = rebuild_agrees n m h (rows s v a w) (bytes s v a w) memory c a (stored_rows s v a w) en em z in
     record {
       written = written s v a.closed file e;
-      read = held.answered ∙ ap T.Rows q;
+      read = held.answered ∙ ap Ok q;
       rebuilt = subst (λ r. refusal memory (rebuild r) ≡ ok) (sym back) agreed.0;
       agrees = λ later. subst (λ r. answers (next memory (rebuild r)) later ≡ answers s later) (sym back) (agreed.1 later);
     }

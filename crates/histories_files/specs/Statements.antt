@@ -1,5 +1,5 @@
 -- Demand 3 as a theorem about files, over all histories. The proof stands in proofs/Files.antt. Assumes nothing.
-use Rattle.std.specs.Prelude.{◌≡◌, true, ℕ, ◌+◌, ◌-◌, ◌*◌, ◌/◌, ◌^◌, ◌≤◌, ◌<◌, length, take, replicate}
+use Rattle.std.specs.Prelude.{◌≡◌, true, ℕ, ◌+◌, ◌-◌, ◌*◌, ◌/◌, ◌^◌, ◌≤◌, ◌<◌, length, take, replicate, Ok}
 use mathlib.Core.List.{List, ◌++◌, map, Memᴰ}
 use Rattle.refusal.specs.Refusals.{key_too_long}
 use Rattle.refusal.specs.Outcomes.{granted}
@@ -10,7 +10,6 @@ use Rattle.snapshot_blocks.specs.Formats.{version1, version2}
 use Rattle.snapshot_blocks.specs.Blocks.{Entry, ascending}
 use Rattle.snapshot_blocks.specs.Valid.{Valid, All}
 use Rattle.snapshot_blocks.specs.Files.{file_of, file_length}
-use Rattle.snapshot_lists.specs.declared.Taken.TheVariants as T
 use Rattle.snapshot_lists.specs.Lists.{ReadInto, read_into}
 use Rattle.model.specs.Store.{Store, Rows, Call, rebuild, ask, lookup, found, snapshot, wrote}
 use Rattle.model.specs.Verdict.{ok, tests_from}
@@ -30,7 +29,7 @@ pub record CarriedOver (s memory : Store) (file : List ℕ) (t : ReadInto) : Typ
   -- the snapshot is written into every lent file of its length
   pub written : answer s (ask (snapshot file)) ≡ granted (wrote (snapshot_of s))
   -- it is read to its end, with as many rows as the store has
-  pub read : t.answer ≡ T.Rows (length (stored_ids s))
+  pub read : t.answer ≡ Ok (length (stored_ids s))
   -- a rebuild from what was read is granted, and no later answer differs
   pub rebuilt : refusal memory (rebuild (rows_read (length (stored_ids s)) t)) ≡ ok
   pub agrees : (later : List Call) → answers (next memory (rebuild (rows_read (length (stored_ids s)) t))) later ≡ answers s later

@@ -17,8 +17,6 @@ use Rattle.list_parts.specs.Parts.{part}
 use Rattle.list_parts.proofs.Parts.{part_end, length_part_full}
 use Rattle.address.specs.Address.{unpacked}
 use Rattle.address.specs.declared.SlabAddress.{SlabAddress}
-use Rattle.address.specs.declared.Unpacked.{Unpacked}
-use Rattle.address.specs.declared.Unpacked.TheVariants as U
 use Rattle.address.proofs.Laws.{unpacked_at}
 use Rattle.carried.specs.Carried.{width, row_in, put_row}
 use Rattle.carried.proofs.Laws.{row_in_part, put_row_done}
@@ -38,8 +36,7 @@ use Rattle.model.proofs.Verdicts.{test_ok, first_ok, tests_join}
 use Rattle.tables.specs.Entries.{held_in, owns_in}
 use Rattle.tables.proofs.LawsEntries.{held_in_read, bad_in_none, bad_in_at, bad_in_read}
 use Rattle.lookup.specs.Lookup.{looked_answer, located_as, looked_in}
-use Rattle.lookup.specs.declared.Looked.{Looked}
-use Rattle.lookup.specs.declared.Looked.TheVariants as L
+use Rattle.std.specs.Prelude.{Result, Ok, Err, Option, Some}
 
 -- ---- what the tests tell
 pub held_in_lt : (ids : ℕ) (marks words : _) (i : ℕ) → held_in ids marks words i ≡ true → i < ids
@@ -48,11 +45,11 @@ held_in_lt ids marks words i e =
     let a = and_true (ltb 0 i && ltb i ids) _ e in
     ltb-true i ids (and_true (ltb 0 i) _ a.0).1
 
-located_as_location : (v : Verdict) (p l : ℕ) → located_as v p ≡ L.Location l → (v ≡ ok) × (l ≡ p)
+located_as_location : (v : Verdict) (p l : ℕ) → located_as v p ≡ Ok l → (v ≡ ok) × (l ≡ p)
 located_as_location ok p l e = let q : p ≡ l = cc in (refl, sym q)
 located_as_location (refuse k i) p l e = let z : ◌≡◌ {A = ℕ} 0 1 = cc in absurd (omega arith)
 
-located_as_refused : (v : Verdict) (p : ℕ) (r : Refusal) → located_as v p ≡ L.Refused r → v ≡ refuse r.number r.index
+located_as_refused : (v : Verdict) (p : ℕ) (r : Refusal) → located_as v p ≡ Err r → v ≡ refuse r.number r.index
 located_as_refused ok p r e = let z : ◌≡◌ {A = ℕ} 0 1 = cc in absurd (omega arith)
 located_as_refused (refuse k i) p r e =
     let q : refusal k i ≡ r = cc in
@@ -63,32 +60,32 @@ module _ (ids slots : ℕ) (id_marks locations slot_marks owners words : List �
   abbrev l : ℕ
   l = get_or locations i 0
 
-  abbrev pub Located : Looked → Type 0
+  abbrev pub Located : Result ℕ Refusal → Type 0
   Located r = r ≡ located_as (looked_in ids slots id_marks locations slot_marks owners words i) l
 
-  pub located_free : held_in ids id_marks words i ≡ false → Located (L.Refused (refusal no_such_id 0))
+  pub located_free : held_in ids id_marks words i ≡ false → Located (Err (refusal no_such_id 0))
   unfolding looked_in test ◌⨾◌
   located_free h = simp h
 
   module _ (h : held_in ids id_marks words i ≡ true) where
     -- no address: zero is no object, any other number contradicts the tables
-    pub located_none : (u : Unpacked) → u ≡ unpacked slots l → ((a : SlabAddress) → u ≡ U.At a → ⊥)
-        → Located (L.Refused (refusal (cond (eqb l 0) no_such_id tables_disagree) 0))
+    pub located_none : (u : Result (Option SlabAddress) Refusal) → u ≡ unpacked slots l → ((a : SlabAddress) → u ≡ Ok (Some a) → ⊥)
+        → Located (Err (refusal (cond (eqb l 0) no_such_id tables_disagree) 0))
     unfolding looked_in test ◌⨾◌
     located_none u e k =
         let bad = bad_in_none slots slot_marks owners words i l u e k in
         by_test (eqb l 0) (λ z. simp (h, z)) (λ z. simp (h, z, bad))
 
     -- an address: its slot is held and the id its owner, or the tables contradict each other
-    module _ (a : SlabAddress) (e : unpacked slots l ≡ U.At a) where
+    module _ (a : SlabAddress) (e : unpacked slots l ≡ Ok (Some a)) where
       stored : eqb l 0 ≡ false
       stored = ne_eqb l 0 (λ (q : l ≡ 0). omega (arith, (unpacked_at slots l a e).whole))
 
-      pub located_own : owns_in slots slot_marks owners words i a ≡ true → Located (L.Location l)
+      pub located_own : owns_in slots slot_marks owners words i a ≡ true → Located (Ok l)
       unfolding looked_in test ◌⨾◌
       located_own o = simp (h, stored, bad_in_at slots slot_marks owners words i l a e, o)
 
-      pub located_other : owns_in slots slot_marks owners words i a ≡ false → Located (L.Refused (refusal tables_disagree 0))
+      pub located_other : owns_in slots slot_marks owners words i a ≡ false → Located (Err (refusal tables_disagree 0))
       unfolding looked_in test ◌⨾◌
       located_other o = simp (h, stored, bad_in_at slots slot_marks owners words i l a e, o)
 
@@ -151,23 +148,23 @@ module _ (m : Memory) (i : ℕ) (row : List ℕ) where
   lookup_rest e = lookup_refusal ∙ ap (λ b. test (not b) wrong_shape 0 ⨾ unfound (read m) i) e ∙ unfound_read m (and_true (fits row_tables m) _ e).0 i
 
   -- ---- the answer, and the lent row
-  abbrev pub Answers : Looked → List ℕ → Type 0
+  abbrev pub Answers : Result ℕ Refusal → List ℕ → Type 0
   Answers r shown = (looked_answer r shown ≡ answer (read m) asked) × (shown ≡ list_in 0 (answer (read m) asked) row)
 
   refused_answer : (n k : ℕ) → S.refusal (read m) asked ≡ refuse n k → answer (read m) asked ≡ refused n k
   unfolding answer
   refused_answer n k e = ap (λ v. answer_by v (grant (read m) asked)) e
 
-  refused_leaves : (n k : ℕ) → S.refusal (read m) asked ≡ refuse n k → Answers (L.Refused (refusal n k)) row
+  refused_leaves : (n k : ℕ) → S.refusal (read m) asked ≡ refuse n k → Answers (Err (refusal n k)) row
   refused_leaves n k e =
       let a = refused_answer n k e in
       (sym a, sym (ap (λ (x : Answer). list_in 0 x row) a))
 
-  pub answers_shape : (fits row_tables m && eqb (length row) width) ≡ false → Answers (L.Refused (refusal wrong_shape 0)) row
+  pub answers_shape : (fits row_tables m && eqb (length row) width) ≡ false → Answers (Err (refusal wrong_shape 0)) row
   answers_shape e = refused_leaves wrong_shape 0 (lookup_shape e)
 
-  module _ (f : Fits) (looked : Looked) (e : looked ≡ located_as Said (get_or m.locations i 0)) where
-    pub answers_refused : (r : Refusal) → looked ≡ L.Refused r → Answers (L.Refused r) row
+  module _ (f : Fits) (looked : Result ℕ Refusal) (e : looked ≡ located_as Said (get_or m.locations i 0)) where
+    pub answers_refused : (r : Refusal) → looked ≡ Err r → Answers (Err r) row
     answers_refused r q = refused_leaves r.number r.index (lookup_rest f ∙ located_as_refused Said _ r (sym e ∙ q))
 
     granted_answer : Said ≡ ok → answer (read m) asked ≡ granted (found (get_or m.locations i 0) (part width m.carried i))
@@ -183,7 +180,7 @@ module _ (m : Memory) (i : ℕ) (row : List ℕ) where
         let lp = length_part_full width m.carried i b in
         (lp ∙ sym lr, ap (put_row width row 0) (row_in_part width m.carried i b) ∙ put_row_whole width row _ lr lp)
 
-    pub answers_found : (location : ℕ) (shown : List ℕ) → looked ≡ L.Location location → shown ≡ put_row width row 0 (row_in width m.carried i) → Answers (L.Location location) shown
+    pub answers_found : (location : ℕ) (shown : List ℕ) → looked ≡ Ok location → shown ≡ put_row width row 0 (row_in width m.carried i) → Answers (Ok location) shown
     answers_found location shown q p =
         let z = located_as_location Said _ location (sym e ∙ q) in
         let g = granted_answer z.0 in

@@ -1,10 +1,8 @@
 -- The outcome of a lookup: document 01's number and values. Assumes nothing.
-use Rattle.std.specs.Prelude.{[], ◌∷◌}
-use Rattle.refusal.specs.Outcomes.{Values, granted, refused_as}
-use Rattle.lookup.specs.declared.Looked.{Looked}
-use Rattle.lookup.specs.declared.Looked.TheVariants as L
+use Rattle.std.specs.Prelude.{[], ◌∷◌, Result, Ok, Err, ℕ}
+use Rattle.refusal.specs.Outcomes.{Values, outcome_by}
+use Rattle.refusal.specs.declared.Refusal.{Refusal}
 
 -- what the row carries stands in the lent list
-abbrev pub looked_outcome : Looked → Values
-looked_outcome (L.Location location) = granted (location ∷ [])
-looked_outcome (L.Refused r) = refused_as r
+abbrev pub looked_outcome : Result ℕ Refusal → Values
+looked_outcome r = outcome_by (λ location. (location ∷ [])) r

@@ -3,8 +3,8 @@
 //
 //     let mut row = [0u8; carried::WIDTH];
 //     match lookup::get_location_for_object(caps, &id_marks, &locations, &slot_marks, &owners, &tallies, &carried, id, &mut row) {
-//         Looked::Location(location) => ..,  // packed, and not 0; row has what the id's row carries
-//         Looked::Refused(refusal) => ..,    // 1; 8, no such id, or none stored under it; 13, the tables contradict each other; row is as it was
+//         Ok(location) => ..,  // packed, and not 0; row has what the id's row carries
+//         Err(refusal) => ..,    // 1; 8, no such id, or none stored under it; 13, the tables contradict each other; row is as it was
 //     }
 //
 // No table is written, and an open batch does not matter: what it stores is seen once it is committed.
@@ -19,16 +19,10 @@ ghost use Rattle.model.specs.Outcomes.{list_in};
 ghost use Rattle.model.specs.Store.{ask, lookup};
 ghost use Rattle.lookup.specs.Lookup.{looked_answer, located_as, looked_in};
 
-use address::{SlabAddress, Unpacked};
+use address::SlabAddress;
 use carried::WIDTH;
-use refusal::Refusal;
+use refusal::{Kind, Refusal};
 use tables::Capacities;
-
-#[derive(Clone, Copy)]
-pub enum Looked {
-    Location(u64),
-    Refused(Refusal),
-}
 
 // Refusal 1, by lengths.
 fn fits(
@@ -57,9 +51,9 @@ pub fn without_address(location: u64) -> u8
     ensures { result ≡ cond (eqb location 0) no_such_id tables_disagree }
 {
     if location == 0 {
-        Refusal::NO_SUCH_ID
+        Kind::NoSuchId
     } else {
-        Refusal::TABLES_DISAGREE
+        Kind::TablesDisagree
     }
 }
 
@@ -72,7 +66,7 @@ fn locate(
     owners: &[u64],
     tallies: &[u64],
     id: u64,
-) -> Looked
+) -> Result<u64, Refusal>
     requires { length locations.now ≡ caps.ids }
     ensures { result
         ≡ located_as (looked_in caps.ids caps.slots
@@ -85,16 +79,16 @@ fn locate(
     let ids = caps.ids;
     let slots = caps.slots;
     if !tables::held_id(ids, id_marks, tallies, id) {
-        return Looked::Refused(Refusal::of(Refusal::NO_SUCH_ID));
+        return Err(Refusal::of(Kind::NoSuchId));
     }
     let location = locations[id as usize];
-    let Unpacked::At(address) = SlabAddress::unpack(slots, location) else {
-        return Looked::Refused(Refusal::of(without_address(location)));
+    let Ok(Some(address)) = SlabAddress::unpack(slots, location) else {
+        return Err(Refusal::of(without_address(location)));
     };
     if !tables::is_owner(slots, slot_marks, owners, tallies, id, address) {
-        return Looked::Refused(Refusal::of(Refusal::TABLES_DISAGREE));
+        return Err(Refusal::of(Kind::TablesDisagree));
     }
-    Looked::Location(location)
+    Ok(location)
 }
 
 pub fn get_location_for_object(
@@ -107,7 +101,7 @@ pub fn get_location_for_object(
     carried: &[u8],
     id: u64,
     row: &mut [u8],
-) -> Looked
+) -> Result<u64, Refusal>
     ensures answers { looked_answer result row.new
         ≡ answered (ask (lookup id row.old)) caps.ids caps.slots
         id_marks.now
@@ -135,13 +129,13 @@ pub fn get_location_for_object(
         carried.len(),
         row.len(),
     ) {
-        return Looked::Refused(Refusal::of(Refusal::WRONG_SHAPE));
+        return Err(Refusal::of(Kind::WrongShape));
     }
     match locate(caps, id_marks, locations, slot_marks, owners, tallies, id) {
-        Looked::Refused(refusal) => Looked::Refused(refusal),
-        Looked::Location(location) => {
+        Err(refusal) => Err(refusal),
+        Ok(location) => {
             carried::put_row(row, 0, carried::row(carried, id as usize));
-            Looked::Location(location)
+            Ok(location)
         }
     }
 }

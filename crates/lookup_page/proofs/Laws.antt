@@ -26,8 +26,6 @@ use Rattle.tables.proofs.LawsEntries.{slab_part_is}
 use Rattle.carried.specs.Carried.{width, row_in, put_row}
 use Rattle.carried.proofs.Laws.{row_in_part, put_row_done, length_put_row}
 use Rattle.lookup.specs.Lookup.{located_as, looked_in}
-use Rattle.lookup.specs.declared.Looked.{Looked}
-use Rattle.lookup.specs.declared.Looked.TheVariants as L
 use Rattle.lookup.proofs.Laws.{looked_at, unfound_read, found_within, over_whole}
 use Rattle.model.specs.Lending.{row_tables}
 use Rattle.model.specs.Lent.{fits}
@@ -44,6 +42,7 @@ use Rattle.model.proofs.Sizes.{shape_read}
 use Rattle.model.proofs.Verdicts.{tests_join}
 use Rattle.lookup_page.specs.Page.{Left, left_by}
 use Rattle.lookup_page.specs.Rows.{told_as, told_in, put_number, put_location, put_carried, written}
+use Rattle.std.specs.Prelude.{Result, Ok, Err}
 
 -- ---- the slot of an address
 
@@ -70,17 +69,17 @@ module _ (slots : ℕ) (marks owners words : List ℕ) (i : ℕ) (a : SlabAddres
 
 -- ---- one row
 
-module _ (looked : Looked) (row : List ℕ) (p : ℕ) (numbers found rows after : List ℕ) where
-  pub told_found : (location : ℕ) → looked ≡ L.Location location → after ≡ put_row width rows p row
+module _ (looked : Result ℕ Refusal) (row : List ℕ) (p : ℕ) (numbers found rows after : List ℕ) where
+  pub told_found : (location : ℕ) → looked ≡ Ok location → after ≡ put_row width rows p row
       → (set numbers p 0 ≡ put_number numbers p (told_as looked row)) × (set found p location ≡ put_location found p (told_as looked row)) × (after ≡ put_carried rows p (told_as looked row))
   told_found location q e = rw q (refl, refl, e)
 
-  pub told_refused : (r : Refusal) → looked ≡ L.Refused r → after ≡ put_row width rows p (replicate width 0)
+  pub told_refused : (r : Refusal) → looked ≡ Err r → after ≡ put_row width rows p (replicate width 0)
       → (set numbers p r.number ≡ put_number numbers p (told_as looked row)) × (set found p 0 ≡ put_location found p (told_as looked row)) × (after ≡ put_carried rows p (told_as looked row))
   told_refused r q e = rw q (refl, refl, e)
 
 -- what the code reads of one id
-pub told_row : (ids slots : ℕ) (id_marks locations slot_marks owners words carried : List ℕ) (i : ℕ) (looked : Looked) (row : List ℕ)
+pub told_row : (ids slots : ℕ) (id_marks locations slot_marks owners words carried : List ℕ) (i : ℕ) (looked : Result ℕ Refusal) (row : List ℕ)
     → looked ≡ located_as (looked_in ids slots id_marks locations slot_marks owners words i) (get_or locations i 0) → row ≡ row_in width carried i
     → told_as looked row ≡ told_in ids slots id_marks locations slot_marks owners words carried i
 unfolding told_in

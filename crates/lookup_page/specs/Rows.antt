@@ -1,16 +1,15 @@
 -- The rows of a page in what the code reads, and how it writes them, one after the other. Nothing of it has to be believed: proofs/Laws.antt shows that it
 -- is what the model says. Assumes nothing.
-use Rattle.std.specs.Prelude.{List, [], ◌∷◌, ℕ, suc, get_or, set, replicate}
+use Rattle.std.specs.Prelude.{List, [], ◌∷◌, ℕ, suc, get_or, set, replicate, Result, Ok, Err}
 use Rattle.carried.specs.Carried.{width, row_in, put_row}
 use Rattle.lookup.specs.Lookup.{located_as, looked_in}
-use Rattle.lookup.specs.declared.Looked.{Looked}
-use Rattle.lookup.specs.declared.Looked.TheVariants as L
 use Rattle.model.specs.Store.{Told}
+use Rattle.refusal.specs.declared.Refusal.{Refusal}
 
 -- what is told where a lookup answers this, and the id has this row
-abbrev pub told_as : Looked → List ℕ → Told
-told_as (L.Location location) row = record { number = 0; location = location; carried = row }
-told_as (L.Refused r) row = record { number = r.number; location = 0; carried = replicate width 0 }
+abbrev pub told_as : Result ℕ Refusal → List ℕ → Told
+told_as (Ok location) row = record { number = 0; location = location; carried = row }
+told_as (Err r) row = record { number = r.number; location = 0; carried = replicate width 0 }
 
 unfoldable pub told_in : ℕ → ℕ → List ℕ → List ℕ → List ℕ → List ℕ → List ℕ → List ℕ → ℕ → Told
 told_in ids slots id_marks locations slot_marks owners words carried i =

@@ -2,8 +2,8 @@
 //
 //     // asked: the ids, in any order and as often as one likes; numbers, found: as many rows; rows: as many times carried::WIDTH bytes
 //     match lookup_page::get_locations_for_objects(caps, &id_marks, &locations, &slot_marks, &owners, &tallies, &carried, &asked, numbers, found, rows) {
-//         Finished::Done => .. numbers[i] ..,     // 0: found[i] is the location of asked[i], and row i what its row carries; else 8 or 13, and zeros
-//         Finished::Refused(refusal) => ..,       // 1; 15, over 256 ids; the lists are as they were
+//         Ok(()) => .. numbers[i] ..,     // 0: found[i] is the location of asked[i], and row i what its row carries; else 8 or 13, and zeros
+//         Err(refusal) => ..,       // 1; 15, over 256 ids; the lists are as they were
 //     }
 //
 // Row i is what a lookup of asked[i] answers: none depends on another. The lengths are looked at once.
@@ -20,10 +20,9 @@ ghost use Rattle.tables.specs.Entries.{owns_in};
 ghost use Rattle.lookup_page.specs.Page.{Left, page, page_leaves};
 ghost use Rattle.lookup_page.specs.Rows.{told_as, told_in, put_number, put_location, put_carried, written};
 
-use address::{SlabAddress, Unpacked};
+use address::SlabAddress;
 use carried::WIDTH;
-use lookup::Looked;
-use refusal::{Finished, Refusal};
+use refusal::{Kind, Refusal};
 use tables::{Capacities, HINT, WAITING};
 
 pub const MOST_ASKED: usize = 256;
@@ -92,7 +91,7 @@ fn locate(
     owners: &[u64],
     tallies: &[u64],
     id: u64,
-) -> Looked
+) -> Result<u64, Refusal>
     requires { (bad_slots caps.slots ≡ false) × (length locations.now ≡ caps.ids)
         × (length slot_marks.now ≡ slabs * caps.slots) × (length owners.now ≡ slabs * caps.slots) }
     ensures { result
@@ -106,21 +105,21 @@ fn locate(
     let ids = caps.ids;
     let slots = caps.slots;
     if !tables::held_id(ids, id_marks, tallies, id) {
-        return Looked::Refused(Refusal::of(Refusal::NO_SUCH_ID));
+        return Err(Refusal::of(Kind::NoSuchId));
     }
     let location = locations[id as usize];
-    let Unpacked::At(address) = SlabAddress::unpack(slots, location) else {
-        return Looked::Refused(Refusal::of(lookup::without_address(location)));
+    let Ok(Some(address)) = SlabAddress::unpack(slots, location) else {
+        return Err(Refusal::of(lookup::without_address(location)));
     };
     if !owns(slots, slot_marks, owners, tallies, id, address) {
-        return Looked::Refused(Refusal::of(Refusal::TABLES_DISAGREE));
+        return Err(Refusal::of(Kind::TablesDisagree));
     }
-    Looked::Location(location)
+    Ok(location)
 }
 
 // Writes what a lookup answered as row p: the row that was found, or a number and zeros.
 fn put_told(
-    looked: Looked,
+    looked: Result<u64, Refusal>,
     row: &[u8],
     p: usize,
     numbers: &mut [u8],
@@ -133,12 +132,12 @@ fn put_told(
         × (rows.new ≡ put_carried rows.old p (told_as looked row.now)) }
 {
     match looked {
-        Looked::Location(location) => {
+        Ok(location) => {
             numbers[p] = 0;
             found[p] = location;
             carried::put_row(rows, p, row);
         }
-        Looked::Refused(refusal) => {
+        Err(refusal) => {
             numbers[p] = refusal.number;
             found[p] = 0;
             carried::put_row(rows, p, &[0; WIDTH]);
@@ -213,7 +212,7 @@ pub fn get_locations_for_objects(
     numbers: &mut [u8],
     found: &mut [u64],
     rows: &mut [u8],
-) -> Finished
+) -> Result<(), Refusal>
     ensures { ◌≡◌ {A = Left}
         (record { outcome = finished_outcome result; numbers = numbers.new; locations = found.new; carried = rows.new })
         (page_leaves (page asked.now numbers.old found.old rows.old) caps.ids caps.slots
@@ -237,14 +236,14 @@ pub fn get_locations_for_objects(
         found.len(),
         rows.len(),
     ) {
-        return Finished::Refused(Refusal::of(Refusal::WRONG_SHAPE));
+        return Err(Refusal::of(Kind::WrongShape));
     }
     if MOST_ASKED < asked.len() {
-        return Finished::Refused(Refusal::of(Refusal::TOO_MANY));
+        return Err(Refusal::of(Kind::TooMany));
     }
     tell(
         caps, id_marks, locations, slot_marks, owners, tallies, carried, asked, numbers, found,
         rows,
     );
-    Finished::Done
+    Ok(())
 }

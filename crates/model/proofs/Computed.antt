@@ -11,8 +11,6 @@ use Rattle.sizes.proofs.Outcomes.{class_outcome_one}
 use Rattle.address.specs.Address.{most_slots, bad_slots, packed, unpacked}
 use Rattle.address.specs.Outcomes.{packed_outcome, unpacked_outcome}
 use Rattle.address.proofs.Outcomes.{packed_outcome_one, unpacked_outcome_one}
-use Rattle.address.specs.declared.Packed.TheVariants.{Location}
-use Rattle.address.specs.declared.Unpacked.TheVariants.{At}
 use Rattle.carried.specs.Carried.{put_row, put_rows, up_from, kept_row, committed}
 use Rattle.little_endian.specs.LittleEndian.{word, get_at}
 use Rattle.keys.specs.Keys.{key_is_long, normal, long_in, normal_rows}
@@ -35,12 +33,13 @@ use Rattle.model.specs.Questions.{ask_refusal, reply}
 use Rattle.model.specs.Step.{refusal_of, refusal, grant, effect, answer, next}
 use Rattle.model.specs.Cases.{Case, class, packs, unpacks, defrags, truncates, call, Holds, AllHold, cases}
 use Rattle.model.proofs.Coded.{same_values, same_values_eq, same_code, cut_code, answer_code, same_cut, same_answer}
+use Rattle.std.specs.Prelude.{Ok, Some}
 
 -- whether a case holds, by the numbers
 abbrev holds : Case → Bool
 holds (class n c) = same_values (class_outcome (class_of n)) (class_outcome c)
-holds (packs slab slot l) = same_values (packed_outcome (packed most_slots (record { slab = slab; slot = slot }))) (packed_outcome (Location l))
-holds (unpacks l slab slot) = same_values (unpacked_outcome (unpacked most_slots l)) (unpacked_outcome (At (record { slab = slab; slot = slot })))
+holds (packs slab slot l) = same_values (packed_outcome (packed most_slots (record { slab = slab; slot = slot }))) (packed_outcome (Ok l))
+holds (unpacks l slab slot) = same_values (unpacked_outcome (unpacked most_slots l)) (unpacked_outcome (Ok (Some (record { slab = slab; slot = slot }))))
 holds (defrags live tip r c) = same_values (cutoff_outcome (cutoff_of live tip r)) (cutoff_outcome c)
 holds (truncates slab high t tip c) = same_code (cut_code (cut_at slab high t tip)) (cut_code c)
 holds (call s c a) = same_code (answer_code (answer s c)) (answer_code a)

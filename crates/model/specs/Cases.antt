@@ -1,19 +1,13 @@
 -- Document 01, "Cases": all that are marked P, the run whole and the easy slips; the edges of a cutoff and of a cut, and what the requests say of keys, of pages and of reasons: one table of what is
 -- asked and what the documents say. proofs/Computed.antt has the one claim about it, `cases_hold`. Assumes nothing.
-use Rattle.std.specs.Prelude.{◌≡◌, true, false, List, [], ◌∷◌, ◌++◌, map, ℕ, ◌-◌, ◌*◌, length, replicate, pos, negsuc, Float}
+use Rattle.std.specs.Prelude.{◌≡◌, true, false, List, [], ◌∷◌, ◌++◌, map, ℕ, ◌-◌, ◌*◌, length, replicate, pos, negsuc, Float, Result, Ok, Err, Option, Some, None}
 use Rattle.std.specs.Float.{fin}
 use Rattle.refusal.specs.Outcomes.{granted, refused}
 use Rattle.refusal.specs.Refusals.{refusal, wrong_shape, too_large, no_such_id, repeated_id, none_free, batch_open, tables_disagree, ratio_out_of_range, too_many, repeated_location, key_too_long}
 use Rattle.sizes.specs.Sizes.{class_of}
-use Rattle.sizes.specs.declared.Class.{Class}
-use Rattle.sizes.specs.declared.Class.TheVariants.{Slab, Refused}
 use Rattle.carried.specs.Carried.{width}
 use Rattle.address.specs.Address.{most_slots, packing, packed, unpacked}
-use Rattle.address.specs.declared.Packed.TheVariants.{Location}
-use Rattle.address.specs.declared.Unpacked.TheVariants.{At}
 use Rattle.fragmentation.specs.Answer.{cutoff_of}
-use Rattle.fragmentation.specs.declared.Cutoff.{Cutoff}
-use Rattle.fragmentation.specs.declared.Cutoff.TheVariants.{From, Nothing}
 use Rattle.model.specs.Store.{Store, with_id_marks, with_owners, Standing, not_stored, full_enough, before_line, listed, Cut, keep, cut}
 use Rattle.model.specs.Store.{Call, new_id, release, offer, commit, rebuild, ask, lookup, lookups, counters, defrag, why, snapshot_length}
 use Rattle.model.specs.Store.{Row, Told, gave, found, told, placed, counts, moves, because, Answer}
@@ -21,18 +15,19 @@ use Rattle.model.specs.Tables.{ids_of}
 use Rattle.model.specs.Rebuild.{columns}
 use Rattle.model.specs.Truncation.{cut_at}
 use Rattle.model.specs.Step.{answer, state}
+use Rattle.refusal.specs.declared.Refusal.{Refusal}
 
 -- ---- a case
 
 -- what is asked, and what the document says
 pub data Case : Type 0 where
   -- so many bytes, and their class
-  class : ℕ → Class → Case
+  class : ℕ → Result ℕ Refusal → Case
   -- a slab, a slot and the location that they are packed into; and back
   packs : ℕ → ℕ → ℕ → Case
   unpacks : ℕ → ℕ → ℕ → Case
   -- live slots, a tip and r, and where the list starts
-  defrags : ℕ → ℕ → Float → Cutoff → Case
+  defrags : ℕ → ℕ → Float → Result (Option ℕ) Refusal → Case
   -- a slab, its high mark, t and its tip, and what becomes of its file
   truncates : ℕ → ℕ → ℕ → ℕ → Cut → Case
   -- a store, a call and its answer
@@ -41,8 +36,8 @@ pub data Case : Type 0 where
 -- what the rules give is what is written: the answer itself, not only its numbers
 abbrev pub Holds : Case → Type 0
 Holds (class n c) = class_of n ≡ c
-Holds (packs slab slot l) = packed most_slots (record { slab = slab; slot = slot }) ≡ Location l
-Holds (unpacks l slab slot) = unpacked most_slots l ≡ At (record { slab = slab; slot = slot })
+Holds (packs slab slot l) = packed most_slots (record { slab = slab; slot = slot }) ≡ Ok l
+Holds (unpacks l slab slot) = unpacked most_slots l ≡ Ok (Some (record { slab = slab; slot = slot }))
 Holds (defrags live tip r c) = cutoff_of live tip r ≡ c
 Holds (truncates slab high t tip c) = cut_at slab high t tip ≡ c
 Holds (call s c a) = answer s c ≡ a
@@ -185,17 +180,17 @@ stands k j n live tip = record { slab = k; slot = j; smaller = n; live = live; t
 unfoldable pub cases : List Case
 cases =
     -- P1
-    class 0 (Slab 0) ∷
+    class 0 (Ok 0) ∷
     -- P2
-    class 59 (Slab 0) ∷ class 60 (Slab 1) ∷
+    class 59 (Ok 0) ∷ class 60 (Ok 1) ∷
     -- P3
-    class 250 (Slab 8) ∷ class 251 (Slab 9) ∷
+    class 250 (Ok 8) ∷ class 251 (Ok 9) ∷
     -- P4
-    class 65528 (Slab 40) ∷ class 65529 (Slab 41) ∷
+    class 65528 (Ok 40) ∷ class 65529 (Ok 41) ∷
     -- P5
-    class 4294967284 (Slab 73) ∷ class 4294967285 (Slab 74) ∷
+    class 4294967284 (Ok 73) ∷ class 4294967285 (Ok 74) ∷
     -- P6
-    class 17179869172 (Slab 77) ∷ class 17179869173 (Refused (refusal too_large 0)) ∷
+    class 17179869172 (Ok 77) ∷ class 17179869173 (Err (refusal too_large 0)) ∷
     -- P7
     packs 0 0 72057594037927936 ∷ packs 77 5 5620492334958379013 ∷ unpacks 72057594037927936 0 0 ∷ unpacks 5620492334958379013 77 5 ∷
     -- P8: new ids 1, 2, 3; after both batches the next is 2 with the release, 4 without
@@ -205,9 +200,9 @@ cases =
     call (state 9 4 (stored3 ++ release ∷ [])) new_id (granted (gave 2)) ∷
     call (state 9 4 stored3) new_id (granted (gave 4)) ∷
     -- P9
-    defrags 3 8 three_quarters (From 4) ∷ defrags 4 8 half Nothing ∷
+    defrags 3 8 three_quarters (Ok (Some 4)) ∷ defrags 4 8 half (Ok None) ∷
     -- the quotient, rounded, reaches the tip; the smallest ratio finds only a slab with nothing live too empty
-    defrags 9 10 above_nine_tenths Nothing ∷ defrags 0 65536 smallest (From 0) ∷ defrags 1 65536 smallest Nothing ∷
+    defrags 9 10 above_nine_tenths (Ok None) ∷ defrags 0 65536 smallest (Ok (Some 0)) ∷ defrags 1 65536 smallest (Ok None) ∷
     -- P10 as request 2026-05 reads it: slab 0, whose slots have 64 bytes, high mark 99, t 80, the tip
     truncates 0 99 80 40 (cut 2944 3456) ∷ truncates 0 99 80 17 (cut 1280 5120) ∷ truncates 0 99 80 16 (cut 1024 5376) ∷
     -- one slot in use: 1 percent of 100 slots, less than 1 of 101

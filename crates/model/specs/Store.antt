@@ -1,7 +1,7 @@
 -- Document 01, "Ids, slots, pending": what a store holds, what it can be asked, what it answers. Assumes nothing.
-use Rattle.std.specs.Prelude.{Bool, List, ℕ, Float}
+use Rattle.std.specs.Prelude.{Bool, List, ℕ, Float, Result, ⊤}
 use Rattle.refusal.specs.Outcomes.{Outcome, finished_as}
-use Rattle.refusal.specs.declared.Finished.{Finished}
+use Rattle.refusal.specs.declared.Refusal.{Refusal}
 
 -- ---- the store
 
@@ -186,5 +186,5 @@ abbrev pub Answer : Type 0
 Answer = Outcome Grant
 
 -- the answer of a call that grants nothing but that it was done
-abbrev pub finished_answer : Finished → Answer
+abbrev pub finished_answer : Result ⊤ Refusal → Answer
 finished_answer f = finished_as done f

@@ -1,7 +1,6 @@
 -- Document 01, "Refusal numbers": tests in an order, of which the first that is met decides. Assumes nothing.
-use Rattle.std.specs.Prelude.{Bool, true, false, cond, ◌&&◌, ◌||◌, List, [], ◌∷◌, ℕ, suc, eqb, ltb}
-use Rattle.refusal.specs.declared.Judged.{Judged}
-use Rattle.refusal.specs.declared.Judged.TheVariants as J
+use Rattle.std.specs.Prelude.{Bool, true, false, cond, ◌&&◌, ◌||◌, List, [], ◌∷◌, ℕ, suc, eqb, ltb, Result, Ok, Err, ⊤}
+use Rattle.refusal.specs.declared.Refusal.{Refusal}
 
 infixr 30 ◌⨾◌
 pub data Verdict : Type 0 where
@@ -31,6 +30,6 @@ earlier first (refuse n i) ok = refuse n i
 earlier first (refuse n i) (refuse m j) = cond (ltb i j || (eqb i j && first n)) (refuse n i) (refuse m j)
 
 -- what a test that only reads says
-abbrev pub judged_verdict : Judged → Verdict
-judged_verdict J.Passed = ok
-judged_verdict (J.Refused r) = refuse r.number r.index
+abbrev pub judged_verdict : Result ⊤ Refusal → Verdict
+judged_verdict (Ok tt) = ok
+judged_verdict (Err r) = refuse r.number r.index

@@ -1,14 +1,13 @@
 -- What the answer of a new id says. Assumes nothing.
-use Rattle.std.specs.Prelude.{ℕ, cond, ◌&&◌, ◌==◌}
+use Rattle.std.specs.Prelude.{ℕ, cond, ◌&&◌, ◌==◌, Result, Ok, Err}
 use Rattle.marks.specs.Marks.{is_free}
 use Rattle.refusal.specs.Outcomes.{granted, refused_as}
 use Rattle.model.specs.Store.{gave, Answer}
-use Rattle.object_ids.specs.declared.new_id.NewId.{NewId}
-use Rattle.object_ids.specs.declared.new_id.NewId.TheVariants as N
+use Rattle.refusal.specs.declared.Refusal.{Refusal}
 
-abbrev pub new_id_answer : NewId → Answer
-new_id_answer (N.Id id) = granted (gave id)
-new_id_answer (N.Refused r) = refused_as r
+abbrev pub new_id_answer : Result ℕ Refusal → Answer
+new_id_answer (Ok id) = granted (gave id)
+new_id_answer (Err r) = refused_as r
 
 -- how many numbers a new id takes, by the mark of number 0 and the hint. Nothing here has to be believed: the law takes_read says that it
 -- is what the store's rule gives

@@ -1,17 +1,13 @@
 -- The outcome of each answer: document 01's number and values. Assumes nothing.
-use Rattle.std.specs.Prelude.{[], ◌∷◌}
-use Rattle.refusal.specs.Outcomes.{Values, granted, refused_as}
-use Rattle.object_ids.specs.declared.new_id.NewId.{NewId}
-use Rattle.object_ids.specs.declared.new_id.NewId.TheVariants as N
-use Rattle.object_ids.specs.declared.counts.Counted.{Counted}
-use Rattle.object_ids.specs.declared.counts.Counted.TheVariants as C
+use Rattle.std.specs.Prelude.{[], ◌∷◌, Result, Ok, Err, ℕ}
+use Rattle.refusal.specs.Outcomes.{Values, granted, refused_as, outcome_by}
+use Rattle.refusal.specs.declared.Refusal.{Refusal}
 
-abbrev pub new_id_outcome : NewId → Values
-new_id_outcome (N.Id id) = granted (id ∷ [])
-new_id_outcome (N.Refused r) = refused_as r
+abbrev pub new_id_outcome : Result ℕ Refusal → Values
+new_id_outcome r = outcome_by (λ id. (id ∷ [])) r
 
 -- the four sums; granted and freed of each allocator stand in the tallies, or in the lent lists
-abbrev pub counted_outcome : Counted → Values
-counted_outcome (C.Stats z) =
+abbrev pub counted_outcome : Result AllocatorStats Refusal → Values
+counted_outcome (Ok z) =
     granted (z.objects_allocated ∷ z.objects_freed ∷ z.heap_slots_allocated ∷ z.heap_slots_freed ∷ [])
-counted_outcome (C.Refused r) = refused_as r
+counted_outcome (Err r) = refused_as r

@@ -8,7 +8,7 @@ ghost use Rattle.model.specs.Outcomes.{list_in};
 ghost use Rattle.object_ids.specs.Counts.{stats_answer, counters_answer, listed};
 
 use crate::IDS;
-use refusal::Refusal;
+use refusal::{Kind, Refusal};
 use tables::{ALLOCATORS, Capacities};
 
 #[derive(Clone, Copy)]
@@ -17,12 +17,6 @@ pub struct AllocatorStats {
     pub objects_freed: u64,
     pub heap_slots_allocated: u64,
     pub heap_slots_freed: u64,
-}
-
-#[derive(Clone, Copy)]
-pub enum Counted {
-    Stats(AllocatorStats),
-    Refused(Refusal),
 }
 
 // The words of a kind, one for each slab, summed modulo 2^64.
@@ -40,14 +34,14 @@ fn slots_sum(tallies: &[u64], base: usize) -> u64
 }
 
 // The four sums: objects are the ids' allocator, heap slots the slabs'.
-pub fn stats(caps: Capacities, tallies: &[u64]) -> Counted
+pub fn stats(caps: Capacities, tallies: &[u64]) -> Result<AllocatorStats, Refusal>
     ensures { stats_answer tallies.now result
         ≡ answered (ask counters) caps.ids caps.slots tallies.now }
 {
     if !tables::tallies_fit(caps, tallies.len()) {
-        return Counted::Refused(Refusal::of(Refusal::WRONG_SHAPE));
+        return Err(Refusal::of(Kind::WrongShape));
     }
-    Counted::Stats(AllocatorStats {
+    Ok(AllocatorStats {
         objects_allocated: tables::get(tallies, tables::GRANTED, IDS),
         objects_freed: tables::get(tallies, tables::FREED, IDS),
         heap_slots_allocated: slots_sum(tallies, tables::GRANTED),
@@ -73,7 +67,7 @@ pub fn counters(
     tallies: &[u64],
     granted: &mut [u64],
     freed: &mut [u64],
-) -> Counted
+) -> Result<AllocatorStats, Refusal>
     ensures result_after { counters_answer granted.new freed.new result
         ≡ listed granted.old freed.old
         (answered (ask counters) caps.ids caps.slots tallies.now) }
@@ -85,17 +79,17 @@ pub fn counters(
         (answered (ask counters) caps.ids caps.slots tallies.now)) freed.old }
 {
     if granted.len() != ALLOCATORS {
-        return Counted::Refused(Refusal::of(Refusal::WRONG_SHAPE));
+        return Err(Refusal::of(Kind::WrongShape));
     }
     if freed.len() != ALLOCATORS {
-        return Counted::Refused(Refusal::of(Refusal::WRONG_SHAPE));
+        return Err(Refusal::of(Kind::WrongShape));
     }
     match stats(caps, tallies) {
-        Counted::Stats(stats) => {
+        Ok(stats) => {
             copy_words(tallies, tables::GRANTED, granted);
             copy_words(tallies, tables::FREED, freed);
-            Counted::Stats(stats)
+            Ok(stats)
         }
-        Counted::Refused(refusal) => Counted::Refused(refusal),
+        Err(refusal) => Err(refusal),
     }
 }

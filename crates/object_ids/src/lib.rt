@@ -1,10 +1,10 @@
 // New object ids, and what the allocators have granted and freed (document 01, "Ids, slots, pending").
 //
 //     match object_ids::allocate_object_id(caps, &mut id_marks, &batch, &mut tallies) {
-//         NewId::Id(id) => ..,            // the smallest free number above 0, held from now on
-//         NewId::Refused(refusal) => ..,  // 1, a wrong length or capacity; 11, a batch is open; 10, none is free
+//         Ok(id) => ..,            // the smallest free number above 0, held from now on
+//         Err(refusal) => ..,  // 1, a wrong length or capacity; 11, a batch is open; 10, none is free
 //     }
-//     let Counted::Stats(stats) = object_ids::stats(caps, &tallies) else { .. };
+//     let Ok(stats) = object_ids::stats(caps, &tallies) else { .. };
 //
 // A search starts at the hint, so that ids given out one after the other cost the same at every capacity.
 #![tactic(auto)]

@@ -8,17 +8,11 @@ ghost use Rattle.model.specs.MemoryAfter.{new_id_words};
 ghost use Rattle.object_ids.specs.NewIds.{new_id_answer, takes};
 
 use crate::IDS;
-use refusal::Refusal;
+use refusal::{Kind, Refusal};
 use tables::Capacities;
 
-#[derive(Clone, Copy)]
-pub enum NewId {
-    Id(u64),
-    Refused(Refusal),
-}
-
 // The id that is next, or why there is none.
-fn next_id(caps: Capacities, id_marks: &[u8], batch: &[u64], tallies: &[u64]) -> NewId
+fn next_id(caps: Capacities, id_marks: &[u8], batch: &[u64], tallies: &[u64]) -> Result<u64, Refusal>
     ensures { new_id_answer result
         ≡ answered new_id caps.ids caps.slots
         id_marks.now
@@ -26,17 +20,17 @@ fn next_id(caps: Capacities, id_marks: &[u8], batch: &[u64], tallies: &[u64]) ->
         tallies.now }
 {
     if !tables::new_id_fits(caps, id_marks.len(), batch.len(), tallies.len()) {
-        return NewId::Refused(Refusal::of(Refusal::WRONG_SHAPE));
+        return Err(Refusal::of(Kind::WrongShape));
     }
     if tables::get(batch, 0, 0) != 0 {
-        return NewId::Refused(Refusal::of(Refusal::BATCH_OPEN));
+        return Err(Refusal::of(Kind::BatchOpen));
     }
     let hint = tables::get(tallies, tables::HINT, IDS) as usize;
     let id = id_allocator::smallest_free(id_marks, hint, 1);
     if caps.ids <= id {
-        return NewId::Refused(Refusal::of(Refusal::NONE_FREE));
+        return Err(Refusal::of(Kind::NoneFree));
     }
-    NewId::Id(id as u64)
+    Ok(id as u64)
 }
 
 // A mark, held if it was free.
@@ -83,7 +77,7 @@ pub fn allocate_object_id(
     id_marks: &mut [u8],
     batch: &[u64],
     tallies: &mut [u64],
-) -> NewId
+) -> Result<u64, Refusal>
     ensures result_value { new_id_answer result
         ≡ answered new_id caps.ids caps.slots
         id_marks.old
@@ -99,10 +93,10 @@ pub fn allocate_object_id(
         tallies.old }
 {
     match next_id(caps, id_marks, batch, tallies) {
-        NewId::Id(id) => {
+        Ok(id) => {
             hold_id(id_marks, tallies, id as usize);
-            NewId::Id(id)
+            Ok(id)
         }
-        NewId::Refused(refusal) => NewId::Refused(refusal),
+        Err(refusal) => Err(refusal),
     }
 }

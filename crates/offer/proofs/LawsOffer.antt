@@ -12,8 +12,6 @@ use lib.Seq.{sets, drop-length}
 use borrow.Author.Tests.{eqb-true, eq-eqb, ne_eqb, not-true, not-false, lt-ltb, le-ltb}
 use Rattle.refusal.specs.Refusals.{wrong_shape, no_such_id, repeated_id, batch_open, too_many, key_too_long}
 use Rattle.refusal.specs.declared.Refusal.{Refusal}
-use Rattle.refusal.specs.declared.Judged.{Judged}
-use Rattle.refusal.specs.declared.Judged.TheVariants as J
 use Rattle.refusal.proofs.Tests.{and_true}
 use Rattle.carried.specs.Carried.{width, put_rows, up_from}
 use Rattle.keys.specs.Keys.{long_in, normal_rows, stores_of, first_met}
@@ -46,13 +44,14 @@ use Rattle.offer_room.specs.Room.{none_asked, tallied, room_in}
 use Rattle.offer.proofs.LawsPlaces.{sets_whole, place_read}
 use Rattle.offer.proofs.LawsRoom.{room_read}
 use Rattle.offer.proofs.LawsUpdates.{length_kinds_of, kinds_front, unkept, check_read, check_lent}
+use Rattle.std.specs.Prelude.{Result, Ok, Err, ⊤}
 
 -- ---- one test after another
-pub seq_stop : (o : Judged) (v w : Verdict) (r : Refusal) → judged_verdict o ≡ v → o ≡ J.Refused r → judged_verdict o ≡ (v ⨾ w)
+pub seq_stop : (o : Result ⊤ Refusal) (v w : Verdict) (r : Refusal) → judged_verdict o ≡ v → o ≡ Err r → judged_verdict o ≡ (v ⨾ w)
 unfolding ◌⨾◌
 seq_stop o v w r e p = let q : refuse r.number r.index ≡ v = sym (ap judged_verdict p) ∙ e in ap judged_verdict p ∙ ap (λ x. x ⨾ w) q
 
-pub seq_on : (o : Judged) (v w : Verdict) → judged_verdict o ≡ v → o ≡ J.Passed → w ≡ (v ⨾ w)
+pub seq_on : (o : Result ⊤ Refusal) (v w : Verdict) → judged_verdict o ≡ v → o ≡ (Ok tt) → w ≡ (v ⨾ w)
 unfolding ◌⨾◌
 seq_on o v w e p = let q : ok ≡ v = sym (ap judged_verdict p) ∙ e in ap (λ x. x ⨾ w) q
 
@@ -74,7 +73,7 @@ module _ (n i k : ℕ) where
   pub decides_seen : i ≡ k → (n ≡ no_such_id → ⊥) → eqb n repeated_id ≡ Decides
   decides_seen e p = rw (le-ltb i k (omega arith), eq-eqb i k e, ne_eqb n no_such_id p)
 
-module _ (j : Judged) (k n : ℕ) where
+module _ (j : Result ⊤ Refusal) (k n : ℕ) where
   abbrev Keyed : Verdict
   Keyed = earlier before_keys (judged_verdict j) (test (ltb k n) key_too_long k)
 
@@ -83,11 +82,11 @@ module _ (j : Judged) (k n : ℕ) where
   keys_short h = rw (le-ltb k n h) (earlier_alone before_keys (judged_verdict j))
 
   module _ (h : k < n) where
-    pub keys_alone : j ≡ J.Passed → refuse key_too_long k ≡ Keyed
+    pub keys_alone : j ≡ (Ok tt) → refuse key_too_long k ≡ Keyed
     unfolding earlier test
     keys_alone p = rw (p, lt-ltb k n h)
 
-    module _ (r : Refusal) (b : Bool) (p : j ≡ J.Refused r) (e : b ≡ Decides r.number r.index k) where
+    module _ (r : Refusal) (b : Bool) (p : j ≡ Err r) (e : b ≡ Decides r.number r.index k) where
       both_refuse : Keyed ≡ cond b (refuse r.number r.index) (refuse key_too_long k)
       unfolding earlier test
       both_refuse = rw (p, lt-ltb k n h, e)
@@ -122,7 +121,7 @@ module _ (m : Memory) (o : Offer) where
   leaves_as r n p e =
       (λ i. record { answer = refused (p i).number (p i).index; slot_marks = m.slot_marks; batch = m.batch; tallies = m.tallies; carried = m.carried; placed = o.placed }) ∙ leaves_refused n 0 e
 
-  pub leaves_verdict : (j : Judged) (r : Refusal) → j ≡ J.Refused r → refusal (read m) (offer o) ≡ judged_verdict j
+  pub leaves_verdict : (j : Result ⊤ Refusal) (r : Refusal) → j ≡ Err r → refusal (read m) (offer o) ≡ judged_verdict j
       → record { answer = refused r.number r.index; slot_marks = m.slot_marks; batch = m.batch; tallies = m.tallies; carried = m.carried; placed = o.placed } ≡ offer_leaves m o
   leaves_verdict j r p e = leaves_refused r.number r.index (e ∙ ap judged_verdict p)
 

@@ -1,15 +1,15 @@
 -- What an offer answers and leaves, in the model's words. Assumes nothing.
-use Rattle.std.specs.Prelude.{List, ℕ}
+use Rattle.std.specs.Prelude.{List, ℕ, Result, ⊤}
 use Rattle.refusal.specs.Outcomes.{finished_as}
-use Rattle.refusal.specs.declared.Finished.{Finished}
 use Rattle.model.specs.Memory.{Memory, read}
 use Rattle.model.specs.MemoryAfter.{memory_after}
 use Rattle.model.specs.Outcomes.{list_in}
 use Rattle.model.specs.Step.{answer}
 use Rattle.model.specs.Store.{Offer, offer, placed, Answer}
+use Rattle.refusal.specs.declared.Refusal.{Refusal}
 
 -- the answer, with the lent list as it is then
-abbrev pub offered_answer : Finished → List ℕ → Answer
+abbrev pub offered_answer : Result ⊤ Refusal → List ℕ → Answer
 offered_answer f ls = finished_as (placed ls) f
 
 -- what an offer leaves: its answer, the tables that it may change, and the lent list

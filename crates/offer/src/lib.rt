@@ -5,8 +5,8 @@
 //     // key's length in 8 bytes, and 64 bytes that start with the key; a Free's are not looked at
 //     match offer::offer(caps, &id_marks, &locations, &mut slot_marks, &owners, &mut batch, &mut tallies,
 //         &mut carried, &[4, 7, 5], &[1, 1, 0], &[3, 300, 0], &update_carried, &mut placed) {
-//         Finished::Done => ..,              // placed has a packed location for each update, 0 for the Free
-//         Finished::Refused(refusal) => ..,  // 1, 11, 15; by its update 8, 9, 21, 2, 13; by its slab 10; nothing is written
+//         Ok(()) => ..,              // placed has a packed location for each update, 0 for the Free
+//         Err(refusal) => ..,  // 1, 11, 15; by its update 8, 9, 21, 2, 13; by its slab 10; nothing is written
 //     }
 //
 // What could refuse only reads (`offer_updates`, `keys`, `offer_room`); what is written comes after it and cannot fail (`offer_places`,
@@ -25,7 +25,7 @@ ghost use Rattle.offer.specs.Verdicts.{offer_fits, keys_in};
 ghost use Rattle.offer_updates.specs.Kinds.{check_in};
 ghost use Rattle.offer_room.specs.Room.{room_in_all, tallied, none_asked};
 
-use refusal::{Finished, Judged, Refusal};
+use refusal::{Kind, Refusal};
 use tables::{Capacities, MOST_UPDATES, all_fit, both, carries, get};
 
 // Refusal 1, by lengths.
@@ -65,21 +65,21 @@ fn decides(refusal: Refusal, long: usize) -> bool
     if refusal.index != long {
         return refusal.index < long;
     }
-    if refusal.number == Refusal::NO_SUCH_ID {
+    if refusal.number == Kind::NoSuchId {
         return true;
     }
-    refusal.number == Refusal::REPEATED_ID
+    refusal.number == Kind::RepeatedId
 }
 
 // What the other tests of the updates say, and that of the keys, of which `long` is the first that is too long.
-fn with_keys(checked: Judged, long: usize, updates: usize) -> Judged
+fn with_keys(checked: Result<(), Refusal>, long: usize, updates: usize) -> Result<(), Refusal>
     ensures { judged_verdict result ≡ earlier before_keys (judged_verdict checked) (test (ltb long updates) key_too_long long) }
 {
     if updates <= long {
         return checked;
     }
-    let keyed = Judged::Refused(Refusal::at(Refusal::KEY_TOO_LONG, long));
-    let Judged::Refused(refusal) = checked else {
+    let keyed = Err(Refusal::at(Kind::KeyTooLong, long));
+    let Err(refusal) = checked else {
         return keyed;
     };
     if decides(refusal, long) {
@@ -100,7 +100,7 @@ fn refused(
     stores: &[u8],
     update_carried: &[u8],
     slabs: &[usize],
-) -> Judged
+) -> Result<(), Refusal>
     ensures { judged_verdict result
         ≡ (earlier before_keys (check_in (lent_by place_tables caps.ids caps.slots
         id_marks.now
@@ -117,7 +117,7 @@ fn refused(
     );
     let long = keys::first_long(stores, update_carried);
     let judged = with_keys(checked, long, stores.len());
-    let Judged::Passed = judged else {
+    let Ok(()) = judged else {
         return judged;
     };
     let asked = offer_room::tally(slabs);
@@ -139,7 +139,7 @@ pub fn offer(
     lengths: &[u64],
     update_carried: &[u8],
     placed: &mut [u64],
-) -> Finished
+) -> Result<(), Refusal>
     ensures { ◌≡◌ {A = Left} (record {
       answer = offered_answer result placed.new;
       slot_marks = slot_marks.new;
@@ -182,13 +182,13 @@ pub fn offer(
         update_carried.len(),
         placed.len(),
     ) {
-        return Finished::Refused(Refusal::of(Refusal::WRONG_SHAPE));
+        return Err(Refusal::of(Kind::WrongShape));
     }
     if get(batch, 0, 0) != 0 {
-        return Finished::Refused(Refusal::of(Refusal::BATCH_OPEN));
+        return Err(Refusal::of(Kind::BatchOpen));
     }
     if n > MOST_UPDATES {
-        return Finished::Refused(Refusal::of(Refusal::TOO_MANY));
+        return Err(Refusal::of(Kind::TooMany));
     }
     let all = offer_updates::kinds(stores, lengths);
     let slabs = &all[..n];
@@ -204,11 +204,11 @@ pub fn offer(
         update_carried,
         slabs,
     );
-    if let Judged::Refused(refusal) = judged {
-        return Finished::Refused(refusal);
+    if let Err(refusal) = judged {
+        return Err(refusal);
     }
     offer_places::place(slots, slot_marks, tallies, slabs, placed);
     offer_places::keep(batch, ids, placed, n as u64 + 1);
     keys::keep(carried, caps.ids, stores, update_carried);
-    Finished::Done
+    Ok(())
 }

@@ -12,9 +12,6 @@ use borrow.Author.Tests.{lt-ltb, le-ltb, ne_eqb}
 use Rattle.refusal.proofs.Tests.{by_test}
 use Rattle.address.specs.Address.{unit, packing, is_location, bad_slots, packed, unpacked, location_in, slabs}
 use Rattle.address.specs.declared.SlabAddress.{SlabAddress}
-use Rattle.address.specs.declared.Packed.{Packed}
-use Rattle.address.specs.declared.Unpacked.{Unpacked}
-use Rattle.address.specs.declared.Unpacked.TheVariants as U
 use Rattle.address.proofs.Laws.{unpacked_at, slots_range}
 use Rattle.marks.specs.Marks.{smallest_free}
 use Rattle.id_allocator.specs.Counted.{hinted}
@@ -24,13 +21,15 @@ use Rattle.model.specs.Tables.{bump}
 use Rattle.model.proofs.Locations.{is_location_packing, is_location_nz}
 use Rattle.tables.specs.Entries.{slab_part}
 use Rattle.offer_places.specs.Places.{slots_in, next_in, spot_in, place_in}
+use Rattle.std.specs.Prelude.{Result, Ok, Err, Option, Some, None}
+use Rattle.refusal.specs.declared.Refusal.{Refusal}
 
 -- ---- spot_in
 pub spot_in_none : (cap : ℕ) (s : Slots) (k : ℕ) → slabs ≤ k → spot_in cap s k ≡ 0
 unfolding spot_in
 spot_in_none cap s k h = rw (le-ltb k slabs h)
 
-pub spot_in_at : (cap : ℕ) (s : Slots) (k j hint : ℕ) (p : List ℕ) (q : Packed) → k < slabs → hint ≡ get_word s.words hint_words (k + 1)
+pub spot_in_at : (cap : ℕ) (s : Slots) (k j hint : ℕ) (p : List ℕ) (q : Result ℕ Refusal) → k < slabs → hint ≡ get_word s.words hint_words (k + 1)
     → p ≡ slab_part cap s.marks k → j ≡ smallest_free 0 (hinted hint p) → q ≡ packed cap (record { slab = k; slot = j }) → spot_in cap s k ≡ location_in q
 unfolding spot_in
 spot_in_at cap s k j hint p q h a b c d =
@@ -47,10 +46,10 @@ spot_in_good cap s k h = by_test (bad_slots cap) (λ b. absurd (is_location_nz c
     same false = refl
 
 -- ---- take_slot
-abbrev pub is_at : Unpacked → ℕ
-is_at (U.At a) = 1
-is_at U.NoObject = 0
-is_at (U.Refused r) = 0
+abbrev pub is_at : Result (Option SlabAddress) Refusal → ℕ
+is_at (Ok (Some a)) = 1
+is_at (Ok None) = 0
+is_at (Err r) = 0
 
 pub take_slot_none : (cap l : ℕ) (s : Slots) → (is_location cap l ≡ true → bad_slots cap ≡ false) → is_at (unpacked cap l) ≡ 0 → s ≡ take_slot cap s l
 unfolding unpacked
@@ -62,7 +61,7 @@ take_slot_none cap l s good e =
     absurd (omega arith))
     (λ h. rw h)
 
-pub take_slot_at : (cap l : ℕ) (s : Slots) (a : SlabAddress) (ms g₁ g₂ g₃ : List ℕ) → unpacked cap l ≡ U.At a
+pub take_slot_at : (cap l : ℕ) (s : Slots) (a : SlabAddress) (ms g₁ g₂ g₃ : List ℕ) → unpacked cap l ≡ Ok (Some a)
     → ms ≡ set s.marks (a.slab * cap + a.slot) 1 → g₁ ≡ bump s.words (word_at granted_words (a.slab + 1)) 1
     → g₂ ≡ put_word g₁ used_words (a.slab + 1) 1 → g₃ ≡ put_word g₂ hint_words (a.slab + 1) (a.slot + 1) → slots_in ms g₃ ≡ take_slot cap s l
 take_slot_at cap l s a ms g₁ g₂ g₃ e em e₁ e₂ e₃ =

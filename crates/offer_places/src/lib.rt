@@ -13,7 +13,7 @@ ghost use Rattle.model.specs.Memory.{kept_ids_at, kept_locations_at};
 ghost use Rattle.model.specs.MemoryAfter.{take_slot, take_slots};
 ghost use Rattle.offer_places.specs.Places.{slots_in, spot_in, place_in};
 
-use address::{Made, Packed, SlabAddress, Unpacked};
+use address::SlabAddress;
 use tables::{GRANTED, HINT, KEPT_IDS, KEPT_LOCATIONS, USED, add, get, put, slab_marks};
 
 // The location of a slab's smallest free slot; 0 where it has none, and where there is no such slab.
@@ -25,10 +25,10 @@ fn spot(slots: usize, slot_marks: &[u8], tallies: &[u64], slab: usize) -> u64
     }
     let hint = get(tallies, HINT, slab + 1) as usize;
     let slot = id_allocator::smallest_free(slab_marks(slot_marks, slots, slab), hint, 0);
-    let Made::At(address) = SlabAddress::from_slab_slot(slab, slot) else {
+    let Ok(address) = SlabAddress::from_slab_slot(slab, slot) else {
         return 0;
     };
-    let Packed::Location(location) = address.pack(slots) else {
+    let Ok(location) = address.pack(slots) else {
         return 0;
     };
     location
@@ -40,7 +40,7 @@ fn take_slot(slots: usize, slot_marks: &mut [u8], tallies: &mut [u64], location:
     ensures { slots_in slot_marks.new tallies.new
         ≡ take_slot slots (slots_in slot_marks.old tallies.old) location }
 {
-    let Unpacked::At(address) = SlabAddress::unpack(slots, location) else {
+    let Ok(Some(address)) = SlabAddress::unpack(slots, location) else {
         return;
     };
     let slab = address.slab;

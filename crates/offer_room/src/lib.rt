@@ -2,8 +2,8 @@
 //
 //     let asked = offer_room::tally(&[0, 0, 9]);  // two slots of slab 0, one of slab 9; SlabAddress::SLABS and above ask for none
 //     match offer_room::room(slots, &slot_marks, &tallies, &asked) {
-//         Judged::Passed => ..,
-//         Judged::Refused(refusal) => ..,  // its index is the slab's
+//         Ok(()) => ..,
+//         Err(refusal) => ..,  // its index is the slab's
 //     }
 //
 // Whether a slab has slots enough is told by the searches that would take them where few are asked for, else by a count that ends when
@@ -18,7 +18,7 @@ ghost use Rattle.model.specs.Verdict.{judged_verdict};
 ghost use Rattle.offer_room.specs.Room.{free_in, tallied, none_asked, room_in_all};
 
 use address::SlabAddress;
-use refusal::{Judged, Refusal};
+use refusal::{Kind, Refusal};
 use tables::{HINT, add, get, slab_marks};
 
 // How many updates ask for a slot of each slab.
@@ -107,15 +107,15 @@ fn slab_lacks(slots: usize, slot_marks: &[u8], tallies: &[u64], slab: usize, ask
     lacks(slab_marks(slot_marks, slots, slab), hint, asked)
 }
 
-pub fn room(slots: usize, slot_marks: &[u8], tallies: &[u64], asked: &[u64]) -> Judged
+pub fn room(slots: usize, slot_marks: &[u8], tallies: &[u64], asked: &[u64]) -> Result<(), Refusal>
     ensures { judged_verdict result ≡ room_in_all slots slot_marks.now tallies.now asked.now }
 {
     let mut slab: usize = 0;
     while slab < SlabAddress::SLABS {
         if slab_lacks(slots, slot_marks, tallies, slab, get(asked, 0, slab)) {
-            return Judged::Refused(Refusal::at(Refusal::NONE_FREE, slab));
+            return Err(Refusal::at(Kind::NoneFree, slab));
         }
         slab += 1;
     }
-    Judged::Passed
+    Ok(())
 }

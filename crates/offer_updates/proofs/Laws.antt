@@ -17,13 +17,13 @@ use Rattle.refusal.proofs.Tests.{clash, by_test}
 use Rattle.list_parts.specs.Lists.{elem}
 use Rattle.list_parts.proofs.Lists.{elem_cases}
 use Rattle.sizes.specs.Sizes.{slab_sizes, first_fit, slab_for, class_of, field_width, check_width, slabs}
-use Rattle.sizes.specs.declared.Class.TheVariants.{Slab, Refused}
 use Rattle.sizes.proofs.Laws.{length_slab_sizes}
 use Rattle.model.specs.Tables.{most_updates}
 use Rattle.model.specs.Memory.{Memory}
 use Rattle.model.specs.Verdict.{Verdict, ok, refuse}
 use Rattle.tables.specs.Entries.{held_in, bad_in}
 use Rattle.offer_updates.specs.Kinds.{no_class_kind, free_kind, kind_of, kinds_of, before, number_by, row_number, say_at, check_in}
+use Rattle.std.specs.Prelude.{Ok, Err}
 
 -- ---- the slab of an update
 first_fit_le : (n : ℕ) (ss : List ℕ) → first_fit n ss ≤ length ss
@@ -43,20 +43,20 @@ pub kind_of_free : (b : Bool) (n : ℕ) → not b ≡ true → free_kind ≡ kin
 kind_of_free true n e = clash (sym e)
 kind_of_free false n e = refl
 
-pub kind_of_slab : (b : Bool) (n k : ℕ) → not b ≡ false → class_of n ≡ Slab k → k ≡ kind_of b n
+pub kind_of_slab : (b : Bool) (n k : ℕ) → not b ≡ false → class_of n ≡ Ok k → k ≡ kind_of b n
 unfolding class_of
 kind_of_slab false n k h e = clash h
 kind_of_slab true n k h e =
     by_test (ltb (slab_for n) slabs)
-    (λ t. let s : Slab (slab_for n) ≡ Slab k = rw t at e in cc)
-    (λ t. let s : Refused (record { number = too_large; index = 0 }) ≡ Slab k = rw t at e in let z : ◌≡◌ {A = ℕ} 0 1 = cc in absurd (omega arith))
+    (λ t. let s : Ok (slab_for n) ≡ Ok k = rw t at e in cc)
+    (λ t. let s : Err (record { number = too_large; index = 0 }) ≡ Ok k = rw t at e in let z : ◌≡◌ {A = ℕ} 0 1 = cc in absurd (omega arith))
 
-pub kind_of_none : (b : Bool) (n : ℕ) (r : Refusal) → not b ≡ false → class_of n ≡ Refused r → no_class_kind ≡ kind_of b n
+pub kind_of_none : (b : Bool) (n : ℕ) (r : Refusal) → not b ≡ false → class_of n ≡ Err r → no_class_kind ≡ kind_of b n
 unfolding class_of
 kind_of_none false n r h e = clash h
 kind_of_none true n r h e =
     by_test (ltb (slab_for n) slabs)
-    (λ t. let s : Slab (slab_for n) ≡ Refused r = rw t at e in let z : ◌≡◌ {A = ℕ} 0 1 = cc in absurd (omega arith))
+    (λ t. let s : Ok (slab_for n) ≡ Err r = rw t at e in let z : ◌≡◌ {A = ℕ} 0 1 = cc in absurd (omega arith))
     (λ t. omega (arith, ltb-false (slab_for n) slabs t, slab_for_le n))
 
 -- a turn, and the three ends

@@ -3,8 +3,8 @@
 //
 //     let all = offer_updates::kinds(&[1, 1, 0], &[3, 300, 0]);  // the slabs of 3 and of 300 bytes; a Free asks for none
 //     match offer_updates::check(caps, &id_marks, &locations, &slot_marks, &owners, &tallies, &[4, 7, 5], &all[..3]) {
-//         Judged::Passed => ..,
-//         Judged::Refused(refusal) => ..,  // its index is the update's
+//         Ok(()) => ..,
+//         Err(refusal) => ..,  // its index is the update's
 //     }
 #![tactic(auto)]
 
@@ -20,8 +20,7 @@ ghost use Rattle.tables.specs.Entries.{held_in, bad_in};
 ghost use Rattle.offer_updates.specs.Kinds.{no_class_kind, no_kinds, kind_of, kinds_of, before, number_by, check_in};
 
 use address::SlabAddress;
-use refusal::{Judged, Refusal};
-use sizes::Class;
+use refusal::{Kind, Refusal};
 use tables::{Capacities, MOST_UPDATES, bad_location, get, held_id};
 
 // A Store whose object has no class, and a Free, among the slabs that updates ask for.
@@ -40,8 +39,8 @@ fn kind(store: bool, length: u64) -> usize
         return NO_SLAB;
     }
     match sizes::slab_for_size(length) {
-        Class::Slab(slab) => slab,
-        Class::Refused(_) => NO_CLASS,
+        Ok(slab) => slab,
+        Err(_) => NO_CLASS,
     }
 }
 
@@ -148,16 +147,16 @@ fn number(
 {
     let id = ids[i];
     if !held_id(caps.ids, id_marks, tallies, id) {
-        return Refusal::NO_SUCH_ID;
+        return Kind::NoSuchId;
     }
     if earlier(ids, i, near) {
-        return Refusal::REPEATED_ID;
+        return Kind::RepeatedId;
     }
     if slab == NO_CLASS {
-        return Refusal::TOO_LARGE;
+        return Kind::TooLarge;
     }
     if bad_location(caps.slots, slot_marks, owners, tallies, id, location) {
-        return Refusal::TABLES_DISAGREE;
+        return Kind::TablesDisagree;
     }
     0
 }
@@ -172,7 +171,7 @@ pub fn check(
     tallies: &[u64],
     ids: &[u64],
     slabs: &[usize],
-) -> Judged
+) -> Result<(), Refusal>
     ensures { judged_verdict result
         ≡ check_in (lent_by place_tables caps.ids caps.slots
         id_marks.now
@@ -186,7 +185,7 @@ pub fn check(
     let mut i: usize = 0;
     while i < ids.len() {
         if slabs.len() <= i {
-            return Judged::Passed;
+            return Ok(());
         }
         let bucket = (ids[i] % BUCKETS) as usize;
         let location = location_of(&found, locations, ids, i);
@@ -203,10 +202,10 @@ pub fn check(
             seen[bucket],
         );
         if n != 0 {
-            return Judged::Refused(Refusal::at(n, i));
+            return Err(Refusal::at(n, i));
         }
         seen[bucket] = true;
         i += 1;
     }
-    Judged::Passed
+    Ok(())
 }

@@ -16,15 +16,12 @@ use Rattle.refusal.proofs.Tests.{by_test}
 use Rattle.list_parts.specs.Parts.{part}
 use Rattle.address.specs.Address.{unit, packing, unpacked, slabs, most_slots}
 use Rattle.address.specs.declared.SlabAddress.{SlabAddress}
-use Rattle.address.specs.declared.Unpacked.{Unpacked}
-use Rattle.address.specs.declared.Unpacked.TheVariants as U
 use Rattle.address.proofs.Laws.{unpacked_at}
 use Rattle.marks.specs.Marks.{count_if, is_taken, tip}
 use Rattle.marks.proofs.LawsCount.{live_le_tip}
 use Rattle.id_allocator.specs.Counted.{hinted}
 use Rattle.fragmentation.specs.Cutoff.{is_ratio, cutoff}
 use Rattle.fragmentation.specs.Answer.{cutoff_of}
-use Rattle.fragmentation.specs.declared.Cutoff.{Cutoff}
 use Rattle.model.specs.Lending.{reason_tables}
 use Rattle.model.specs.Lent.{fits}
 use Rattle.model.specs.Memory.{Memory, read, get_word, hint_words, used_words}
@@ -47,64 +44,65 @@ use Rattle.reason.specs.Read.{without_address, owned_by, object_in, standing_in,
 use Rattle.reason.specs.declared.Standing.{Standing}
 use Rattle.reason.specs.declared.Reason.{Reason}
 use Rattle.reason.specs.declared.Reason.TheVariants as R
+use Rattle.std.specs.Prelude.{Result, Ok, Err, Option, Some, None}
 
 -- ---- the object of an id, by what its location unpacks to
 module _ (ids slots : ℕ) (id_marks locations slot_marks owners words : List ℕ) (i : ℕ) where
   abbrev l : ℕ
   l = get_or locations i 0
 
-  abbrev pub Object : Unpacked → Type 0
+  abbrev pub Object : Result (Option SlabAddress) Refusal → Type 0
   Object u = u ≡ object_in ids slots id_marks locations slot_marks owners words i
 
-  pub object_free : held_in ids id_marks words i ≡ false → Object U.NoObject
+  pub object_free : held_in ids id_marks words i ≡ false → Object (Ok None)
   unfolding object_in
   object_free h = simp h
 
   module _ (h : held_in ids id_marks words i ≡ true) where
     held : object_in ids slots id_marks locations slot_marks owners words i ≡ owned_by slots slot_marks owners words i l (unpacked slots l)
     unfolding object_in
-    held = ap (λ b. cond b (owned_by slots slot_marks owners words i l (unpacked slots l)) U.NoObject) h
+    held = ap (λ b. cond b (owned_by slots slot_marks owners words i l (unpacked slots l)) (Ok None)) h
 
-    pub object_none : (u : Unpacked) → u ≡ unpacked slots l → ((a : SlabAddress) → u ≡ U.At a → ⊥) → Object (without_address l)
+    pub object_none : (u : Result (Option SlabAddress) Refusal) → u ≡ unpacked slots l → ((a : SlabAddress) → u ≡ Ok (Some a) → ⊥) → Object (without_address l)
     object_none u e k =
         sym (held ∙ ap (owned_by slots slot_marks owners words i l) (sym e)
         ∙ else_is (owned_by slots slot_marks owners words i l) (without_address l) refl (λ r. refl) u k)
 
-    module _ (a : SlabAddress) (e : unpacked slots l ≡ U.At a) where
-      at : object_in ids slots id_marks locations slot_marks owners words i ≡ cond (owns_in slots slot_marks owners words i a) (U.At a) (U.Refused (refusal tables_disagree 0))
+    module _ (a : SlabAddress) (e : unpacked slots l ≡ Ok (Some a)) where
+      at : object_in ids slots id_marks locations slot_marks owners words i ≡ cond (owns_in slots slot_marks owners words i a) (Ok (Some a)) (Err (refusal tables_disagree 0))
       at = held ∙ ap (owned_by slots slot_marks owners words i l) e
 
-      pub object_own : owns_in slots slot_marks owners words i a ≡ true → Object (U.At a)
-      object_own o = sym (at ∙ ap (λ b. cond b (U.At a) (U.Refused (refusal tables_disagree 0))) o)
+      pub object_own : owns_in slots slot_marks owners words i a ≡ true → Object (Ok (Some a))
+      object_own o = sym (at ∙ ap (λ b. cond b (Ok (Some a)) (Err (refusal tables_disagree 0))) o)
 
-      pub object_other : owns_in slots slot_marks owners words i a ≡ false → Object (U.Refused (refusal tables_disagree 0))
-      object_other o = sym (at ∙ ap (λ b. cond b (U.At a) (U.Refused (refusal tables_disagree 0))) o)
+      pub object_other : owns_in slots slot_marks owners words i a ≡ false → Object (Err (refusal tables_disagree 0))
+      object_other o = sym (at ∙ ap (λ b. cond b (Ok (Some a)) (Err (refusal tables_disagree 0))) o)
 
 -- an object's address is in range
 pub object_at : (ids slots : ℕ) (id_marks locations slot_marks owners words : List ℕ) (i : ℕ) (a : SlabAddress)
-    → object_in ids slots id_marks locations slot_marks owners words i ≡ U.At a → unpacked slots (get_or locations i 0) ≡ U.At a
+    → object_in ids slots id_marks locations slot_marks owners words i ≡ Ok (Some a) → unpacked slots (get_or locations i 0) ≡ Ok (Some a)
 unfolding object_in
 object_at ids slots id_marks locations slot_marks owners words i a = go (held_in ids id_marks words i) (unpacked slots (get_or locations i 0))
   where
-    none : {A : Type 0} → ◌≡◌ {A = Unpacked} U.NoObject (U.At a) → A
+    none : {A : Type 0} → ◌≡◌ {A = (Result (Option SlabAddress) Refusal)} (Ok None) (Ok (Some a)) → A
     none e = let z : ◌≡◌ {A = ℕ} 0 1 = cc in absurd (omega arith)
 
-    wrong : {A : Type 0} → U.Refused (refusal tables_disagree 0) ≡ U.At a → A
+    wrong : {A : Type 0} → Err (refusal tables_disagree 0) ≡ Ok (Some a) → A
     wrong e = let z : ◌≡◌ {A = ℕ} 0 1 = cc in absurd (omega arith)
 
-    without : (b : Bool) {A : Type 0} → cond b U.NoObject (U.Refused (refusal tables_disagree 0)) ≡ U.At a → A
+    without : (b : Bool) {A : Type 0} → cond b (Ok None) (Err (refusal tables_disagree 0)) ≡ Ok (Some a) → A
     without true e = none e
     without false e = wrong e
 
-    own : (b : Bool) (x : SlabAddress) → cond b (U.At x) (U.Refused (refusal tables_disagree 0)) ≡ U.At a → U.At x ≡ U.At a
+    own : (b : Bool) (x : SlabAddress) → cond b (Ok (Some x)) (Err (refusal tables_disagree 0)) ≡ Ok (Some a) → Ok (Some x) ≡ Ok (Some a)
     own true x e = e
     own false x e = wrong e
 
-    go : (h : Bool) (u : Unpacked) → cond h (owned_by slots slot_marks owners words i (get_or locations i 0) u) U.NoObject ≡ U.At a → u ≡ U.At a
+    go : (h : Bool) (u : Result (Option SlabAddress) Refusal) → cond h (owned_by slots slot_marks owners words i (get_or locations i 0) u) (Ok None) ≡ Ok (Some a) → u ≡ Ok (Some a)
     go false u e = none e
-    go true (U.At x) e = own (owns_in slots slot_marks owners words i x) x e
-    go true U.NoObject e = without (eqb (get_or locations i 0) 0) e
-    go true (U.Refused r) e = without (eqb (get_or locations i 0) 0) e
+    go true (Ok (Some x)) e = own (owns_in slots slot_marks owners words i x) x e
+    go true (Ok None) e = without (eqb (get_or locations i 0) 0) e
+    go true (Err r) e = without (eqb (get_or locations i 0) 0) e
 
 -- ---- tables that fit
 module _ (m : Memory) (f : fits reason_tables m ≡ true) where
@@ -166,7 +164,7 @@ standing_is slots slot_marks words a hint used n live top marks eh eu em en el e
       tip = tip (hinted (eh k) (em k)) (eu k);
     })
 
-pub reason_is : (slots : ℕ) (slot_marks words : List ℕ) (a : SlabAddress) (r : Float) (v : Standing) (c : Cutoff)
+pub reason_is : (slots : ℕ) (slot_marks words : List ℕ) (a : SlabAddress) (r : Float) (v : Standing) (c : Result (Option ℕ) Refusal)
     → v ≡ standing_in slots slot_marks words a → c ≡ cutoff_of v.live v.tip r → by_cutoff v c ≡ reason_in slots slot_marks words a r
 unfolding reason_in
 reason_is slots slot_marks words a r v c e q = ap (by_cutoff v) q ∙ (λ k. by_cutoff (e k) (cutoff_of (e k).live (e k).tip r))
@@ -183,7 +181,7 @@ module _ (m : Memory) (i : ℕ) (r : Float) where
   abbrev asked : Call
   asked = ask (why i r)
 
-  abbrev object : Unpacked
+  abbrev object : Result (Option SlabAddress) Refusal
   object = object_in m.ids m.slots m.id_marks m.locations m.slot_marks m.owners m.tallies i
 
   abbrev pub Says : Reason → Type 0
@@ -220,22 +218,22 @@ module _ (m : Memory) (i : ℕ) (r : Float) where
       says_ratio e = refused_says ratio_out_of_range (by_ratio false e)
 
       module _ (q : is_ratio r ≡ true) where
-        abbrev by_object : Unpacked → Answer
-        by_object (U.At a) = granted (because (reason_for (standing (read m) a.slab a.slot) r))
-        by_object U.NoObject = granted (because not_stored)
-        by_object (U.Refused x) = refused_as x
+        abbrev by_object : Result (Option SlabAddress) Refusal → Answer
+        by_object (Ok (Some a)) = granted (because (reason_for (standing (read m) a.slab a.slot) r))
+        by_object (Ok None) = granted (because not_stored)
+        by_object (Err x) = refused_as x
 
         abbrev here : ℕ
         here = get_or m.locations i 0
 
         -- by whether the id is held, and what its location unpacks to
-        by_object_lem : (h : Bool) (u : Unpacked) → unpacked m.slots here ≡ u
+        by_object_lem : (h : Bool) (u : Result (Option SlabAddress) Refusal) → unpacked m.slots here ≡ u
             → answer_by (test ((h && not (eqb here 0)) && bad_by m.slots m.slot_marks m.owners m.tallies i here u) tables_disagree 0)
             (because (cond (h && not (eqb here 0)) (reason_for (standing_at (read m) here) r) not_stored))
-            ≡ by_object (cond h (owned_by m.slots m.slot_marks m.owners m.tallies i here u) U.NoObject)
+            ≡ by_object (cond h (owned_by m.slots m.slot_marks m.owners m.tallies i here u) (Ok None))
         unfolding test bad_by
         by_object_lem false u e = refl
-        by_object_lem true (U.At a) e =
+        by_object_lem true (Ok (Some a)) e =
             let v = unpacked_at m.slots here a e in
             let top = (fits_range reason_tables m f).slots_to in
             let stored : eqb here 0 ≡ false = ne_eqb here 0 (λ (z : here ≡ 0). omega (arith, v.whole)) in
@@ -244,8 +242,8 @@ module _ (m : Memory) (i : ℕ) (r : Float) where
             by_test (owns_in m.slots m.slot_marks m.owners m.tallies i a)
             (λ y. simp (stored, y) (λ k. granted (because (reason_for (standing (read m) (slab k) (slot k)) r))))
             (λ y. simp (stored, y))
-        by_object_lem true U.NoObject e = by_test (eqb here 0) (λ z. simp z) (λ z. simp z)
-        by_object_lem true (U.Refused x) e = by_test (eqb here 0) (λ z. simp z) (λ z. simp z)
+        by_object_lem true (Ok None) e = by_test (eqb here 0) (λ z. simp z) (λ z. simp z)
+        by_object_lem true (Err x) e = by_test (eqb here 0) (λ z. simp z) (λ z. simp z)
 
         answer_is : answer (read m) asked ≡ by_object object
         unfolding answer grant reply read object_in held_in test ◌⨾◌
@@ -255,15 +253,15 @@ module _ (m : Memory) (i : ℕ) (r : Float) where
             (because (reason_of (read m) r i)))
             ∙ by_object_lem (held_in m.ids m.id_marks m.tallies i) (unpacked m.slots here) refl
 
-        pub says_none : U.NoObject ≡ object → Says R.NotStored
+        pub says_none : (Ok None) ≡ object → Says R.NotStored
         says_none e = sym (answer_is ∙ ap by_object (sym e))
 
-        pub says_refused : (x : Refusal) → U.Refused x ≡ object → Says (R.Refused x)
+        pub says_refused : (x : Refusal) → Err x ≡ object → Says (R.Refused x)
         says_refused x e = sym (answer_is ∙ ap by_object (sym e))
 
-        pub object_slab : (a : SlabAddress) → U.At a ≡ object → a.slab < slabs
+        pub object_slab : (a : SlabAddress) → Ok (Some a) ≡ object → a.slab < slabs
         object_slab a e =
             (unpacked_at m.slots here a (object_at m.ids m.slots m.id_marks m.locations m.slot_marks m.owners m.tallies i a (sym e))).slab_lt
 
-        pub says_at : (a : SlabAddress) → U.At a ≡ object → Says (reason_in m.slots m.slot_marks m.tallies a r)
+        pub says_at : (a : SlabAddress) → Ok (Some a) ≡ object → Says (reason_in m.slots m.slot_marks m.tallies a r)
         says_at a e = reason_read m f a (object_slab a e) r q ∙ sym (answer_is ∙ ap by_object (sym e))

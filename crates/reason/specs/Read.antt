@@ -1,39 +1,36 @@
 -- The object of an id, its slab and the reason, in what the code reads. Nothing here has to be believed: proofs/Laws.antt shows that they say what the
 -- model says. Assumes nothing.
-use Rattle.std.specs.Prelude.{cond, List, ℕ, ◌+◌, ltb, eqb, get_or, take, Float}
+use Rattle.std.specs.Prelude.{cond, List, ℕ, ◌+◌, ltb, eqb, get_or, take, Float, Result, Ok, Err, Option, Some, None}
 use Rattle.refusal.specs.Refusals.{refusal, tables_disagree}
 use Rattle.address.specs.Address.{unpacked}
 use Rattle.address.specs.declared.SlabAddress.{SlabAddress}
-use Rattle.address.specs.declared.Unpacked.{Unpacked}
-use Rattle.address.specs.declared.Unpacked.TheVariants as U
 use Rattle.marks.specs.Marks.{count_if, is_taken, tip}
 use Rattle.id_allocator.specs.Counted.{hinted}
 use Rattle.fragmentation.specs.Answer.{cutoff_of}
-use Rattle.fragmentation.specs.declared.Cutoff.{Cutoff}
-use Rattle.fragmentation.specs.declared.Cutoff.TheVariants as C
 use Rattle.model.specs.Memory.{get_word, hint_words, used_words}
 use Rattle.tables.specs.Entries.{held_in, slab_part, owns_in}
 use Rattle.reason.specs.declared.Standing.{Standing}
 use Rattle.reason.specs.declared.Reason.{Reason}
 use Rattle.reason.specs.declared.Reason.TheVariants as R
+use Rattle.refusal.specs.declared.Refusal.{Refusal}
 
 -- ---- the object of an id
 
-abbrev pub contradicted : Unpacked
-contradicted = U.Refused (refusal tables_disagree 0)
+abbrev pub contradicted : Result (Option SlabAddress) Refusal
+contradicted = Err (refusal tables_disagree 0)
 
-abbrev pub without_address : ℕ → Unpacked
-without_address l = cond (eqb l 0) U.NoObject contradicted
+abbrev pub without_address : ℕ → Result (Option SlabAddress) Refusal
+without_address l = cond (eqb l 0) (Ok None) contradicted
 
 -- by what its location unpacks to
-abbrev pub owned_by : ℕ → List ℕ → List ℕ → List ℕ → ℕ → ℕ → Unpacked → Unpacked
-owned_by slots slot_marks owners words i l (U.At a) = cond (owns_in slots slot_marks owners words i a) (U.At a) contradicted
-owned_by slots slot_marks owners words i l U.NoObject = without_address l
-owned_by slots slot_marks owners words i l (U.Refused r) = without_address l
+abbrev pub owned_by : ℕ → List ℕ → List ℕ → List ℕ → ℕ → ℕ → Result (Option SlabAddress) Refusal → Result (Option SlabAddress) Refusal
+owned_by slots slot_marks owners words i l (Ok (Some a)) = cond (owns_in slots slot_marks owners words i a) (Ok (Some a)) contradicted
+owned_by slots slot_marks owners words i l (Ok None) = without_address l
+owned_by slots slot_marks owners words i l (Err r) = without_address l
 
-unfoldable pub object_in : ℕ → ℕ → List ℕ → List ℕ → List ℕ → List ℕ → List ℕ → ℕ → Unpacked
+unfoldable pub object_in : ℕ → ℕ → List ℕ → List ℕ → List ℕ → List ℕ → List ℕ → ℕ → Result (Option SlabAddress) Refusal
 object_in ids slots id_marks locations slot_marks owners words i =
-    cond (held_in ids id_marks words i) (owned_by slots slot_marks owners words i (get_or locations i 0) (unpacked slots (get_or locations i 0))) U.NoObject
+    cond (held_in ids id_marks words i) (owned_by slots slot_marks owners words i (get_or locations i 0) (unpacked slots (get_or locations i 0))) (Ok None)
 
 -- ---- its slab
 
@@ -51,10 +48,10 @@ standing_in slots slot_marks words a = record {
 abbrev pub by_line : Standing → ℕ → Reason
 by_line w line = cond (ltb w.slot line) (R.BeforeLine w line) (R.Listed w line)
 
-abbrev pub by_cutoff : Standing → Cutoff → Reason
-by_cutoff w (C.From line) = by_line w line
-by_cutoff w C.Nothing = R.FullEnough w
-by_cutoff w (C.Refused r) = R.Refused r
+abbrev pub by_cutoff : Standing → Result (Option ℕ) Refusal → Reason
+by_cutoff w (Ok (Some line)) = by_line w line
+by_cutoff w (Ok None) = R.FullEnough w
+by_cutoff w (Err r) = R.Refused r
 
 unfoldable pub reason_in : ℕ → List ℕ → List ℕ → SlabAddress → Float → Reason
 reason_in slots slot_marks words a r =

@@ -20,9 +20,8 @@ ghost use Rattle.model.specs.Store.{ask, why};
 ghost use Rattle.reason.specs.Reasons.{reason_answer};
 ghost use Rattle.reason.specs.Read.{object_in, without_address, standing_in, by_line, reason_in};
 
-use address::{SlabAddress, Unpacked};
-use fragmentation::Cutoff;
-use refusal::Refusal;
+use address::SlabAddress;
+use refusal::{Kind, Refusal};
 use tables::Capacities;
 
 #[derive(Clone, Copy)]
@@ -46,13 +45,13 @@ pub enum Reason {
 // ---- the object of an id
 
 // Zero means no object; any other location without an address contradicts the tables.
-fn without_address(location: u64) -> Unpacked
+fn without_address(location: u64) -> Result<Option<SlabAddress>, Refusal>
     ensures { result ≡ without_address location }
 {
     if location == 0 {
-        return Unpacked::NoObject;
+        return Ok(None);
     }
-    Unpacked::Refused(Refusal::of(Refusal::TABLES_DISAGREE))
+    Err(Refusal::of(Kind::TablesDisagree))
 }
 
 // Its address; no object where a lookup is refused with 8.
@@ -64,7 +63,7 @@ fn object_of(
     owners: &[u64],
     tallies: &[u64],
     id: u64,
-) -> Unpacked
+) -> Result<Option<SlabAddress>, Refusal>
     ensures { result
         ≡ object_in caps.ids caps.slots
         id_marks.now
@@ -76,16 +75,16 @@ fn object_of(
     let ids = caps.ids;
     let slots = caps.slots;
     if !tables::held_id(ids, id_marks, tallies, id) {
-        return Unpacked::NoObject;
+        return Ok(None);
     }
     let location = tables::get(locations, 0, id as usize);
-    let Unpacked::At(address) = SlabAddress::unpack(slots, location) else {
+    let Ok(Some(address)) = SlabAddress::unpack(slots, location) else {
         return without_address(location);
     };
     if !tables::is_owner(slots, slot_marks, owners, tallies, id, address) {
-        return Unpacked::Refused(Refusal::of(Refusal::TABLES_DISAGREE));
+        return Err(Refusal::of(Kind::TablesDisagree));
     }
-    Unpacked::At(address)
+    Ok(Some(address))
 }
 
 // ---- its slab
@@ -150,9 +149,9 @@ fn reason_at(
 {
     let standing = stands_at(slots, slot_marks, tallies, address);
     match fragmentation::fragmentation_cutoff(standing.live, standing.tip, r) {
-        Cutoff::From(line) => by_line(standing, line),
-        Cutoff::Nothing => Reason::FullEnough(standing),
-        Cutoff::Refused(refusal) => Reason::Refused(refusal),
+        Ok(Some(line)) => by_line(standing, line),
+        Ok(None) => Reason::FullEnough(standing),
+        Err(refusal) => Reason::Refused(refusal),
     }
 }
 
@@ -185,18 +184,18 @@ pub fn reason_for_object(
         batch.len(),
         tallies.len(),
     ) {
-        return Reason::Refused(Refusal::of(Refusal::WRONG_SHAPE));
+        return Reason::Refused(Refusal::of(Kind::WrongShape));
     }
     if tables::get(batch, 0, 0) != 0 {
-        return Reason::Refused(Refusal::of(Refusal::BATCH_OPEN));
+        return Reason::Refused(Refusal::of(Kind::BatchOpen));
     }
     if fragmentation::bad_ratio(r) {
-        return Reason::Refused(Refusal::of(Refusal::RATIO_OUT_OF_RANGE));
+        return Reason::Refused(Refusal::of(Kind::RatioOutOfRange));
     }
     let slots = caps.slots;
     match object_of(caps, id_marks, locations, slot_marks, owners, tallies, id) {
-        Unpacked::NoObject => Reason::NotStored,
-        Unpacked::At(address) => reason_at(slots, slot_marks, tallies, address, r),
-        Unpacked::Refused(refusal) => Reason::Refused(refusal),
+        Ok(None) => Reason::NotStored,
+        Ok(Some(address)) => reason_at(slots, slot_marks, tallies, address, r),
+        Err(refusal) => Reason::Refused(refusal),
     }
 }

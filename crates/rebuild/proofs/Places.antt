@@ -8,12 +8,12 @@ use native.Mathlib.Omega.{arith}
 use lib.ListN.{length, length-set}
 use Rattle.address.specs.Address.{unit, is_location, unpacked, slabs}
 use Rattle.address.specs.declared.SlabAddress.{SlabAddress}
-use Rattle.address.specs.declared.Unpacked.TheVariants as U
 use Rattle.address.proofs.Laws.{slots_range, unpacked_at}
 use Rattle.model.specs.Memory.{put_word, used_words, word_at}
 use Rattle.model.specs.Tables.{slot_place}
 use Rattle.rebuild_rows.specs.Checks.{is_at}
 use Rattle.rebuild_rows.proofs.Turns.{is_at_unpacked}
+use Rattle.std.specs.Prelude.{Ok, Some}
 
 pub record Place (slots location : ℕ) (a : SlabAddress) : Type 0 where
   pub is : is_location slots location ≡ true
@@ -22,7 +22,7 @@ pub record Place (slots location : ℕ) (a : SlabAddress) : Type 0 where
   pub fits : a.slab * slots + a.slot < 2 ^ 32
   pub few : a.slab < slabs
 
-pub place : (slots l : ℕ) (a : SlabAddress) → unpacked slots l ≡ U.At a → Place slots l a
+pub place : (slots l : ℕ) (a : SlabAddress) → unpacked slots l ≡ Ok (Some a) → Place slots l a
 place slots l a e =
     let c = unpacked_at slots l a e in
     let r = slots_range slots c.capacity in

@@ -9,7 +9,7 @@ ghost use Rattle.model.specs.Memory.{put_word, used_words};
 ghost use Rattle.model.specs.MemoryAfter.{use_slots};
 
 use crate::clear;
-use address::{SlabAddress, Unpacked};
+use address::SlabAddress;
 use marks::HELD;
 
 // The used word of the ids: 1 where there is a row.
@@ -48,7 +48,7 @@ fn hold_slot(
         × (tallies.new
         ≡ cond (is_location slots location) (put_word tallies.old used_words (location / unit) 1) tallies.old) }
 {
-    let Unpacked::At(address) = SlabAddress::unpack(slots, location) else {
+    let Ok(Some(address)) = SlabAddress::unpack(slots, location) else {
         return;
     };
     let slab = address.slab;

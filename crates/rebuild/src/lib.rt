@@ -5,8 +5,8 @@
 //     // length in 8 bytes, and 64 bytes that start with the key
 //     match rebuild::rebuild(caps, &mut id_marks, &mut locations, &mut slot_marks, &mut owners, &mut batch, &mut tallies, &mut carried,
 //         &ids, &row_locations, &row_carried) {
-//         Finished::Done => ..,
-//         Finished::Refused(refusal) => ..,  // 1; by its row 8, 9, 3, 16, 21
+//         Ok(()) => ..,
+//         Err(refusal) => ..,  // 1; by its row 8, 9, 3, 16, 21
 //     }
 //
 // Every word and byte of the seven tables is written, or none where the call is refused.
@@ -21,7 +21,7 @@ ghost use Rattle.model.specs.Verdict.{test, earlier};
 ghost use Rattle.rebuild_rows.specs.Checks.{wrong_verdict};
 
 use rebuild_rows::Wrong;
-use refusal::{Finished, Refusal};
+use refusal::{Kind, Refusal};
 use tables::Capacities;
 
 mod apply;
@@ -37,7 +37,7 @@ pub fn fresh(
     batch: &mut [u64],
     tallies: &mut [u64],
     carried: &mut [u8],
-) -> Finished
+) -> Result<(), Refusal>
     ensures { (finished_answer result
         ≡ answered fresh caps.ids caps.slots
         id_marks.old
@@ -74,12 +74,12 @@ pub fn fresh(
         tallies.len(),
         carried.len(),
     ) {
-        return Finished::Refused(Refusal::of(Refusal::WRONG_SHAPE));
+        return Err(Refusal::of(Kind::WrongShape));
     }
     clear::all(
         id_marks, locations, slot_marks, owners, batch, tallies, carried,
     );
-    Finished::Done
+    Ok(())
 }
 
 // There is a location for each id, and as many bytes as they carry.
@@ -98,7 +98,7 @@ fn with_keys(wrong: Wrong, long: usize, rows: usize) -> Wrong
     }
     let keyed = Wrong {
         row: long,
-        number: Refusal::KEY_TOO_LONG,
+        kind: Kind::KeyTooLong,
     };
     if wrong.number == 0 {
         return keyed;
@@ -122,7 +122,7 @@ pub fn rebuild(
     ids: &[u64],
     row_locations: &[u64],
     row_carried: &[u8],
-) -> Finished
+) -> Result<(), Refusal>
     ensures { (finished_answer result
         ≡ answered (rebuild (record { ids = ids.entry.now; locations = row_locations.now; carried = row_carried.now }))
         caps.ids caps.slots
@@ -166,13 +166,13 @@ pub fn rebuild(
         fit,
         rows_fit(ids.len(), row_locations.len(), row_carried.len()),
     ) {
-        return Finished::Refused(Refusal::of(Refusal::WRONG_SHAPE));
+        return Err(Refusal::of(Kind::WrongShape));
     }
     let first = rebuild_rows::first_refused(caps, ids, row_locations);
     let long = keys::first_long_row(ids.len(), row_carried);
     let wrong = with_keys(first, long, ids.len());
     if wrong.number != 0 {
-        return Finished::Refused(Refusal::at(wrong.number, wrong.row));
+        return Err(Refusal::at(wrong.number, wrong.row));
     }
     let slots = caps.slots;
     apply::write(
@@ -188,5 +188,5 @@ pub fn rebuild(
         row_locations,
         row_carried,
     );
-    Finished::Done
+    Ok(())
 }

@@ -11,10 +11,10 @@ use lib.Seq.{drop-cons}
 use borrow.Author.Tests.{eqb-true, eq-eqb, ne_eqb}
 use Rattle.refusal.specs.Refusals.{refusal, out_of_range}
 use Rattle.address.specs.Address.{bad_slots, unit, is_location, unpacked}
-use Rattle.address.specs.declared.Unpacked.TheVariants as U
 use Rattle.model.specs.Store.{Row}
 use Rattle.model.specs.Rebuild.{rows_of}
 use Rattle.rebuild_rows.specs.Checks.{wrong, is_at, wrong_in, first_wrong, groups, group_of, bit_of, with_bit, marked, repeats_at, marked_by, repeat_in, repeats_from}
+use Rattle.std.specs.Prelude.{Ok, Err, Some, None}
 
 -- ---- unpacking tells locations
 
@@ -23,7 +23,7 @@ unfolding unpacked
 is_at_unpacked slots l b = rw b (go (eqb l 0) refl (is_location slots l) refl)
   where
     go : (z : Bool) → eqb l 0 ≡ z → (v : Bool) → is_location slots l ≡ v
-        → is_at (cond z U.NoObject (cond v (U.At (record { slab = l / unit - 1; slot = l % unit })) (U.Refused (refusal out_of_range 0)))) ≡ v
+        → is_at (cond z (Ok None) (cond v (Ok (Some (record { slab = l / unit - 1; slot = l % unit }))) (Err (refusal out_of_range 0)))) ≡ v
     go true e v f = let q : l ≡ 0 = eqb-true l 0 e in ap (is_location slots) (sym q) ∙ f
     go false e true f = refl
     go false e false f = refl

@@ -1,23 +1,23 @@
 -- The rules of rebuild rows as the code goes through them. Nothing here has to be believed: proofs/Checked.antt shows that together they
 -- are the model's `rows`. Assumes nothing.
-use Rattle.std.specs.Prelude.{Bool, true, false, not, cond, ◌&&◌, List, [], ◌∷◌, ℕ, zero, suc, ◌+◌, ◌/◌, ◌%◌, ◌^◌, ltb, eqb, length, get_or, set, take, replicate}
+use Rattle.std.specs.Prelude.{Bool, true, false, not, cond, ◌&&◌, List, [], ◌∷◌, ℕ, zero, suc, ◌+◌, ◌/◌, ◌%◌, ◌^◌, ltb, eqb, length, get_or, set, take, replicate, Result, Ok, Err, Option, Some, None}
 use Rattle.std.specs.Int.Bits.{bit_or}
 use Rattle.refusal.specs.Refusals.{wrong_shape, out_of_range, no_such_id, repeated_id, repeated_location}
 use Rattle.address.specs.Address.{bad_slots, unit, is_location}
-use Rattle.address.specs.declared.Unpacked.{Unpacked}
-use Rattle.address.specs.declared.Unpacked.TheVariants as U
 use Rattle.model.specs.Store.{Row}
 use Rattle.model.specs.Rebuild.{rows_of}
 use Rattle.model.specs.Verdict.{Verdict, ok, refuse}
 use Rattle.rebuild_rows.specs.declared.Wrong.{Wrong}
+use Rattle.refusal.specs.declared.Refusal.{Refusal}
+use Rattle.address.specs.declared.SlabAddress.{SlabAddress}
 
 abbrev pub wrong : ℕ → ℕ → Wrong
 wrong row number = record { row = row; number = number }
 
-abbrev pub is_at : Unpacked → Bool
-is_at (U.At a) = true
-is_at U.NoObject = false
-is_at (U.Refused r) = false
+abbrev pub is_at : Result (Option SlabAddress) Refusal → Bool
+is_at (Ok (Some a)) = true
+is_at (Ok None) = false
+is_at (Err r) = false
 
 -- ---- what a row says by itself, and repeated ids
 

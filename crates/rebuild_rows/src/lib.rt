@@ -13,9 +13,9 @@ ghost use Rattle.address.specs.Address.{bad_slots, is_location, most_slots};
 ghost use Rattle.model.specs.Rebuild.{rows_of};
 ghost use Rattle.rebuild_rows.specs.Checks.{is_at, wrong_in, first_wrong, groups, has_bit, with_bit, repeats_at, marked_by, repeat_in, repeats_from, checked, refused_row};
 
-use address::{SlabAddress, Unpacked};
+use address::SlabAddress;
 use marks::{FREE, HELD};
-use refusal::Refusal;
+use refusal::{Kind, Refusal};
 use tables::Capacities;
 
 // A row, and the number of what is wrong with it: 0 for nothing.
@@ -37,13 +37,13 @@ fn mark_at(marks: &[u8], at: usize) -> u8
     if at < marks.len() { marks[at] } else { FREE }
 }
 
-fn is_at(unpacked: Unpacked) -> bool
+fn is_at(unpacked: Result<Option<SlabAddress>, Refusal>) -> bool
     ensures { result ≡ is_at unpacked }
 {
     match unpacked {
-        Unpacked::At(_) => true,
-        Unpacked::NoObject => false,
-        Unpacked::Refused(_) => false,
+        Ok(Some(_)) => true,
+        Ok(None) => false,
+        Err(_) => false,
     }
 }
 
@@ -61,18 +61,18 @@ fn wrong_in(caps: Capacities, seen: &[u8], id: u64, location: u64) -> u8
 {
     let number = id as usize;
     if number == 0 {
-        return Refusal::NO_SUCH_ID;
+        return Kind::NoSuchId;
     }
     if number >= caps.ids {
-        return Refusal::NO_SUCH_ID;
+        return Kind::NoSuchId;
     }
     if mark_at(seen, number) != FREE {
-        return Refusal::REPEATED_ID;
+        return Kind::RepeatedId;
     }
     if is_location(caps.slots, location) {
         0
     } else {
-        Refusal::OUT_OF_RANGE
+        Kind::OutOfRange
     }
 }
 
@@ -186,7 +186,7 @@ fn first_of(caps: Capacities, ids: &[u64], row_locations: &[u64]) -> Wrong
     if repeat < end {
         return Wrong {
             row: repeat,
-            number: Refusal::REPEATED_LOCATION,
+            kind: Kind::RepeatedLocation,
         };
     }
     wrong
@@ -201,7 +201,7 @@ pub fn first_refused(caps: Capacities, ids: &[u64], row_locations: &[u64]) -> Wr
     if !tables::both(!address::bad_slots(slots), row_locations.len() == ids.len()) {
         return Wrong {
             row: 0,
-            number: Refusal::WRONG_SHAPE,
+            kind: Kind::WrongShape,
         };
     }
     first_of(caps, ids, row_locations)

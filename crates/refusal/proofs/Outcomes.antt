@@ -4,7 +4,7 @@ use mathlib.Core.List.{List, []}
 use mathlib.Core.Path.{◌≡◌, refl, sym, ap, ◌∙◌}
 use Prim.Native.Nat.{ℕ}
 use Rattle.std.specs.Prelude.{Result, Ok, Err, ⊤}
-use Rattle.refusal.specs.Outcomes.{Outcome, granted, refused, outcome_by, done_outcome}
+use Rattle.refusal.specs.Outcomes.{Outcome, granted, refused, outcome_by, finished_outcome}
 use Rattle.refusal.specs.Refusals.{refusal, number_of}
 use Rattle.refusal.specs.declared.Refusal.{Refusal}
 use Rattle.refusal.specs.declared.Kind.{Kind}
@@ -24,5 +24,5 @@ pub outcome_one : {A B : Type 0} (says : A → B) (grants : B → A) → ((a : A
     → (a b : Result A Refusal) → outcome_by says a ≡ outcome_by says b → a ≡ b
 outcome_one says grants h = one_by (outcome_by says) (read_back grants) λ r. elim r as (λ k. read_back grants (outcome_by says k) ≡ k) [ Ok a ↦ ap Ok (h a) | Err r ↦ refl ]
 
-pub done_outcome_one : (a b : Result ⊤ Refusal) → done_outcome a ≡ done_outcome b → a ≡ b
-done_outcome_one = outcome_one (λ _. []) (λ _. ()) (λ a. refl)
+pub finished_outcome_one : (a b : Result ⊤ Refusal) → finished_outcome a ≡ finished_outcome b → a ≡ b
+finished_outcome_one = outcome_one (λ _. []) (λ _. tt) (λ a. refl)

@@ -25,5 +25,5 @@ abbrev pub finished_as : {A : Type 0} → A → Result ⊤ Refusal → Outcome A
 finished_as a f = outcome_by (λ _. a) f
 
 -- of a call that grants nothing but that it was done, and of a test that only reads
-abbrev pub done_outcome : Result ⊤ Refusal → Values
-done_outcome f = finished_as [] f
+abbrev pub finished_outcome : Result ⊤ Refusal → Values
+finished_outcome f = finished_as [] f

@@ -1,8 +1,8 @@
 // Release: every id and every slot that is pending becomes free (document 01, "Ids, slots, pending").
 //
 //     match release::release(caps, &mut id_marks, &mut slot_marks, &batch, &mut tallies) {
-//         Finished::Done => ..,
-//         Finished::Refused(refusal) => ..,  // 1, a wrong length or capacity; 11, a batch is open
+//         Ok(()) => ..,
+//         Err(refusal) => ..,  // 1, a wrong length or capacity; 11, a batch is open
 //     }
 //
 // An allocator whose waiting word is 0 has nothing pending and is passed over, so that the marks of a slab are only looked at
@@ -17,7 +17,7 @@ ghost use Rattle.model.specs.Lent.{lent_to, answered, leaves};
 ghost use Rattle.model.specs.MemoryAfter.{Slots, released_marks, released_words, release_slabs};
 
 use address::SlabAddress;
-use refusal::{Finished, Refusal};
+use refusal::{Kind, Refusal};
 use tables::Capacities;
 
 // The ids' allocator is the first of tables::ALLOCATORS; slab k's is k + 1.
@@ -30,7 +30,7 @@ fn granted(
     slot_marks: &[u8],
     batch: &[u64],
     tallies: &[u64],
-) -> Finished
+) -> Result<(), Refusal>
     ensures { finished_answer result
         ≡ answered release caps.ids caps.slots
         id_marks.now
@@ -45,12 +45,12 @@ fn granted(
         batch.len(),
         tallies.len(),
     ) {
-        return Finished::Refused(Refusal::of(Refusal::WRONG_SHAPE));
+        return Err(Refusal::of(Kind::WrongShape));
     }
     if tables::get(batch, 0, 0) != 0 {
-        return Finished::Refused(Refusal::of(Refusal::BATCH_OPEN));
+        return Err(Refusal::of(Kind::BatchOpen));
     }
-    Finished::Done
+    Ok(())
 }
 
 // What is pending in one allocator becomes free, and is counted.
@@ -98,7 +98,7 @@ pub fn release(
     slot_marks: &mut [u8],
     batch: &[u64],
     tallies: &mut [u64],
-) -> Finished
+) -> Result<(), Refusal>
     ensures result_value { finished_answer result
         ≡ answered release caps.ids caps.slots
         id_marks.old
@@ -117,11 +117,11 @@ pub fn release(
         tallies.old }
 {
     match granted(caps, id_marks, slot_marks, batch, tallies) {
-        Finished::Done => {
+        Ok(()) => {
             release_allocator(id_marks, tallies, IDS);
             release_slabs(caps.slots, slot_marks, tallies);
-            Finished::Done
+            Ok(())
         }
-        Finished::Refused(refusal) => Finished::Refused(refusal),
+        Err(refusal) => Err(refusal),
     }
 }

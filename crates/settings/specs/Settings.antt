@@ -1,14 +1,11 @@
 -- Document 01, "Settings cookie": 64 bytes, all little-endian. Assumes nothing.
-use Rattle.std.specs.Prelude.{not, cond, List, ◌++◌, ℕ, ltb, eqb, length, take, replicate}
+use Rattle.std.specs.Prelude.{not, cond, List, ◌++◌, ℕ, ltb, eqb, length, take, replicate, Result, Ok, Err, ⊤}
 use Rattle.refusal.specs.Refusals.{refusal, wrong_shape, check_differs, unknown_version, fanout_differs}
-use Rattle.refusal.specs.declared.Finished.{Finished}
-use Rattle.refusal.specs.declared.Finished.TheVariants as F
-use Rattle.refusal.specs.declared.Judged.{Judged}
-use Rattle.refusal.specs.declared.Judged.TheVariants as J
 use Rattle.little_endian.specs.LittleEndian.{bytes_of, get_at}
 use Rattle.seal.specs.Seal.{signed, is_signed}
 use Rattle.settings.specs.declared.PersistentSettings.{PersistentSettings}
 use Rattle.settings.specs.declared.PersistentSettings.TheVariants as P
+use Rattle.refusal.specs.declared.Refusal.{Refusal}
 
 abbrev pub cookie_length : ℕ
 cookie_length = 64
@@ -19,13 +16,13 @@ unfoldable pub cookie_of : ℕ → List ℕ
 cookie_of fanout = signed (bytes_of 2 1 ++ (bytes_of 8 fanout ++ replicate 50 0))
 
 pub record Storing : Type 0 where
-  pub answer : Finished
+  pub answer : Result ⊤ Refusal
   pub cookie : List ℕ
 
 unfoldable pub storing : ℕ → List ℕ → Storing
 storing fanout cookie =
-    cond (eqb (length cookie) cookie_length) (record { answer = F.Done; cookie = cookie_of fanout })
-    (record { answer = F.Refused (refusal wrong_shape 0); cookie = cookie })
+    cond (eqb (length cookie) cookie_length) (record { answer = (Ok tt); cookie = cookie_of fanout })
+    (record { answer = Err (refusal wrong_shape 0); cookie = cookie })
 
 -- ---- reading: bytes after 64 are ignored, and the padding is not looked at
 unfoldable pub settings_of : List ℕ → PersistentSettings
@@ -36,6 +33,6 @@ settings_of cookie =
     (P.V1 (get_at 2 10 cookie))))
 
 -- whether the settings found are those expected
-unfoldable pub agreement : ℕ → PersistentSettings → Judged
-agreement fanout (P.V1 found) = cond (eqb found fanout) J.Passed (J.Refused (refusal fanout_differs 0))
-agreement fanout (P.Refused r) = J.Refused r
+unfoldable pub agreement : ℕ → PersistentSettings → Result ⊤ Refusal
+agreement fanout (P.V1 found) = cond (eqb found fanout) (Ok tt) (Err (refusal fanout_differs 0))
+agreement fanout (P.Refused r) = Err r

@@ -2,15 +2,15 @@
 //
 //     PersistentSettings::serialize(leaf_fanout, &mut cookie);
 //     match PersistentSettings::verify(&cookie, leaf_fanout) {
-//         Judged::Passed => ..,
-//         Judged::Refused(refusal) => ..,  // 1, too short; 4, the check differs; 6, another version; 7, another fanout
+//         Ok(()) => ..,
+//         Err(refusal) => ..,  // 1, too short; 4, the check differs; 6, another version; 7, another fanout
 //     }
 #![tactic(auto)]
 
 ghost use Rattle.std.specs.Prelude.{◌≡◌};
 ghost use Rattle.settings.specs.Settings.{Storing, storing, settings_of, agreement};
 
-use refusal::{Finished, Judged, Refusal};
+use refusal::{Kind, Refusal};
 
 const COOKIE_LENGTH: usize = 64;
 
@@ -31,18 +31,18 @@ pub enum PersistentSettings {
 
 impl PersistentSettings {
     // Writes the cookie.
-    pub fn serialize(leaf_fanout: u64, cookie: &mut [u8]) -> Finished
+    pub fn serialize(leaf_fanout: u64, cookie: &mut [u8]) -> Result<(), Refusal>
         ensures { ◌≡◌ {A = Storing} (record { answer = result; cookie = cookie.new })
             (storing leaf_fanout cookie.old) }
     {
         if cookie.len() != COOKIE_LENGTH {
-            return Finished::Refused(Refusal::of(Refusal::WRONG_SHAPE));
+            return Err(Refusal::of(Kind::WrongShape));
         }
         little_endian::put_at(cookie, 0, FANOUT, VERSION);
         little_endian::put_at(cookie, FANOUT, PADDING, leaf_fanout);
         little_endian::put_at(cookie, PADDING, CHECK, 0);
         seal::write(cookie);
-        Finished::Done
+        Ok(())
     }
 
     // Reads a cookie.
@@ -50,13 +50,13 @@ impl PersistentSettings {
         ensures { result ≡ settings_of cookie.now }
     {
         if cookie.len() < COOKIE_LENGTH {
-            return PersistentSettings::Refused(Refusal::of(Refusal::WRONG_SHAPE));
+            return PersistentSettings::Refused(Refusal::of(Kind::WrongShape));
         }
         if !seal::agrees(&cookie[..COOKIE_LENGTH]) {
-            return PersistentSettings::Refused(Refusal::of(Refusal::CHECK_DIFFERS));
+            return PersistentSettings::Refused(Refusal::of(Kind::CheckDiffers));
         }
         if little_endian::get_at(cookie, 0, FANOUT) != VERSION {
-            return PersistentSettings::Refused(Refusal::of(Refusal::UNKNOWN_VERSION));
+            return PersistentSettings::Refused(Refusal::of(Kind::UnknownVersion));
         }
         PersistentSettings::V1 {
             leaf_fanout: little_endian::get_at(cookie, FANOUT, PADDING),
@@ -64,18 +64,18 @@ impl PersistentSettings {
     }
 
     // Whether the cookie was written with this fanout.
-    pub fn verify(cookie: &[u8], leaf_fanout: u64) -> Judged
+    pub fn verify(cookie: &[u8], leaf_fanout: u64) -> Result<(), Refusal>
         ensures { result ≡ agreement leaf_fanout (settings_of cookie.now) }
     {
         match PersistentSettings::deserialize(cookie) {
             PersistentSettings::V1 { leaf_fanout: found } => {
                 if found == leaf_fanout {
-                    Judged::Passed
+                    Ok(())
                 } else {
-                    Judged::Refused(Refusal::of(Refusal::FANOUT_DIFFERS))
+                    Err(Refusal::of(Kind::FanoutDiffers))
                 }
             }
-            PersistentSettings::Refused(refusal) => Judged::Refused(refusal),
+            PersistentSettings::Refused(refusal) => Err(refusal),
         }
     }
 }

@@ -19,7 +19,7 @@ use Rattle.list_parts.proofs.Lists.{elem_cases}
 use Rattle.sizes.specs.Sizes.{slab_sizes, size_of, is_slab_size, slabs, field_width, check_width, longest_object, first_fit, slab_for, class_of}
 use Rattle.sizes.specs.OddPart.{goes}
 use Rattle.sizes.specs.Edges.{longest_in_first, longest_with8}
-use Rattle.sizes.specs.declared.Class.TheVariants.{Slab, Refused}
+use Rattle.std.specs.Prelude.{Ok, Err}
 
 -- ---- field_width
 pub field_width_le : (s : ℕ) → field_width s ≤ 8
@@ -163,11 +163,11 @@ unfolding longest_object field_width size_of slab_sizes
 slab_for_none n h = slab_for_after n 77 (lit< tt) h
 
 -- ---- class_of
-pub class_of_slab : (n k : ℕ) → n ≤ longest_with8 → k ≡ slab_for n → Slab k ≡ class_of n
+pub class_of_slab : (n k : ℕ) → n ≤ longest_with8 → k ≡ slab_for n → Ok k ≡ class_of n
 unfolding class_of
 class_of_slab n k h e = simp (e, lt-ltb (slab_for n) slabs (slab_for_some n h))
 
-pub class_of_none : (n : ℕ) → longest_with8 < n → Refused (refusal too_large 0) ≡ class_of n
+pub class_of_none : (n : ℕ) → longest_with8 < n → Err (refusal too_large 0) ≡ class_of n
 unfolding class_of
 class_of_none n h = simp (le-ltb (slab_for n) slabs (slab_for_none n h))
 

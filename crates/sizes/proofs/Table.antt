@@ -11,19 +11,19 @@ use Rattle.refusal.specs.Refusals.{refusal, too_large}
 use Rattle.refusal.proofs.Tests.{by_test}
 use Rattle.sizes.specs.Sizes.{slab_sizes, size_of, slabs, slab_for, class_of}
 use Rattle.sizes.specs.Table.{Ascends, taking, FirstToTake, ClassRule}
-use Rattle.sizes.specs.declared.Class.TheVariants.{Slab, Refused}
 use Rattle.sizes.proofs.Laws.{length_slab_sizes, size_of_ascends, slab_for_takes, slab_for_least, slab_for_upto}
+use Rattle.std.specs.Prelude.{Ok, Err}
 
 pub slab_sizes_ascend : Ascends slab_sizes
 unfolding size_of
 slab_sizes_ascend j k h l = size_of_ascends j k h (omega (arith, length_slab_sizes))
 
 -- ---- the class, by the test that decides it
-within : (n : ℕ) → slab_for n < slabs → class_of n ≡ Slab (slab_for n)
+within : (n : ℕ) → slab_for n < slabs → class_of n ≡ Ok (slab_for n)
 unfolding class_of
 within n h = rw (lt-ltb _ _ h)
 
-past : (n : ℕ) → slabs ≤ slab_for n → class_of n ≡ Refused (refusal too_large 0)
+past : (n : ℕ) → slabs ≤ slab_for n → class_of n ≡ Err (refusal too_large 0)
 unfolding class_of
 past n h = rw (le-ltb _ _ h)
 
@@ -37,7 +37,7 @@ none_past n h =
     absurd (omega (arith, slab_for_takes n b, h (slab_for n) (omega (arith, length_slab_sizes)))))
     (ltb-false (slab_for n) slabs)
 
-found_at : (n k : ℕ) → class_of n ≡ Slab k → FirstToTake slab_sizes n k
+found_at : (n k : ℕ) → class_of n ≡ Ok k → FirstToTake slab_sizes n k
 unfolding size_of
 found_at n k e =
     by_test (ltb (slab_for n) slabs)
@@ -54,7 +54,7 @@ found_at n k e =
     let s = past n (ltb-false _ _ t) in
     let z : ◌≡◌ {A = ℕ} 0 1 = cc in absurd (omega arith))
 
-finds_at : (n k : ℕ) → FirstToTake slab_sizes n k → class_of n ≡ Slab k
+finds_at : (n k : ℕ) → FirstToTake slab_sizes n k → class_of n ≡ Ok k
 unfolding size_of
 finds_at n k f =
     let b : k < slabs = omega (arith, f.within, length_slab_sizes) in
@@ -63,9 +63,9 @@ finds_at n k f =
     by_test (ltb (slab_for n) k)
     (λ t. let l = ltb-true (slab_for n) k t in absurd (omega (arith, slab_for_takes n (omega arith), f.first (slab_for n) l)))
     (λ t. omega (arith, ltb-false (slab_for n) k t)) in
-    within n (omega arith) ∙ ap Slab q
+    within n (omega arith) ∙ ap Ok q
 
-none_at : (n : ℕ) → class_of n ≡ Refused (refusal too_large 0) → (j : ℕ) → j < length slab_sizes → get_or slab_sizes j 0 < taking n (get_or slab_sizes j 0)
+none_at : (n : ℕ) → class_of n ≡ Err (refusal too_large 0) → (j : ℕ) → j < length slab_sizes → get_or slab_sizes j 0 < taking n (get_or slab_sizes j 0)
 unfolding size_of
 none_at n e j h =
     by_test (ltb (slab_for n) slabs)

@@ -1,9 +1,7 @@
 -- The outcome of each answer: document 01's number and values. Assumes nothing.
-use Rattle.std.specs.Prelude.{[], ◌∷◌}
-use Rattle.refusal.specs.Outcomes.{Values, granted, refused_as}
-use Rattle.sizes.specs.declared.Class.{Class}
-use Rattle.sizes.specs.declared.Class.TheVariants as C
+use Rattle.std.specs.Prelude.{[], ◌∷◌, Result, Ok, Err, ℕ}
+use Rattle.refusal.specs.Outcomes.{Values, outcome_by}
+use Rattle.refusal.specs.declared.Refusal.{Refusal}
 
-abbrev pub class_outcome : Class → Values
-class_outcome (C.Slab slab) = granted (slab ∷ [])
-class_outcome (C.Refused r) = refused_as r
+abbrev pub class_outcome : Result ℕ Refusal → Values
+class_outcome r = outcome_by (λ slab. (slab ∷ [])) r

@@ -1,9 +1,8 @@
 -- Document 01, "Sizes and frames": the slab sizes, what a frame takes of a slot, and the class of an object. Assumes nothing.
-use Rattle.std.specs.Prelude.{Bool, cond, List, [], ◌∷◌, ℕ, suc, ◌+◌, ◌-◌, leb, ltb, get_or}
+use Rattle.std.specs.Prelude.{Bool, cond, List, [], ◌∷◌, ℕ, suc, ◌+◌, ◌-◌, leb, ltb, get_or, Result, Ok, Err}
 use Rattle.refusal.specs.Refusals.{refusal, too_large}
 use Rattle.list_parts.specs.Lists.{elem}
-use Rattle.sizes.specs.declared.Class.{Class}
-use Rattle.sizes.specs.declared.Class.TheVariants.{Slab, Refused}
+use Rattle.refusal.specs.declared.Refusal.{Refusal}
 
 abbrev pub slabs : ℕ
 slabs = 78
@@ -52,5 +51,5 @@ unfoldable pub slab_for : ℕ → ℕ
 slab_for n = first_fit n slab_sizes
 
 -- the class of n bytes
-unfoldable pub class_of : ℕ → Class
-class_of n = cond (ltb (slab_for n) slabs) (Slab (slab_for n)) (Refused (refusal too_large 0))
+unfoldable pub class_of : ℕ → Result ℕ Refusal
+class_of n = cond (ltb (slab_for n) slabs) (Ok (slab_for n)) (Err (refusal too_large 0))

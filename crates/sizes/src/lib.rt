@@ -1,8 +1,8 @@
 // The 78 slab sizes, what a frame takes of a slot, and the class of an object (document 01, "Sizes and frames").
 //
 //     match sizes::slab_for_size(60) {
-//         Class::Slab(slab) => ..,        // slab 1: 60 bytes and their frame need 65 of its 80
-//         Class::Refused(refusal) => ..,  // 2, beyond the largest class
+//         Ok(slab) => ..,        // slab 1: 60 bytes and their frame need 65 of its 80
+//         Err(refusal) => ..,  // 2, beyond the largest class
 //     }
 #![tactic(auto)]
 
@@ -12,7 +12,7 @@ ghost use Rattle.sizes.specs.Table.{Ascends, ClassRule};
 ghost use Rattle.sizes.specs.OddPart.{goes};
 ghost use Rattle.sizes.specs.Edges.{longest_in_first, longest_with2, longest_with8};
 
-use refusal::Refusal;
+use refusal::{Kind, Refusal};
 
 pub const SLABS: usize = 78;
 
@@ -114,12 +114,6 @@ pub const SLAB_SIZES: [u64; SLABS] = [
     12884901888,
     17179869184,
 ];
-
-#[derive(Clone, Copy)]
-pub enum Class {
-    Slab(usize),
-    Refused(Refusal),
-}
 
 // The constant table, whole. Its order and the class rule are promised of what is returned.
 pub fn slab_sizes() -> [u64; SLABS]
@@ -249,20 +243,20 @@ fn by_halves(n: u64) -> usize
 }
 
 // The first slab that n bytes and their frame fit.
-pub fn slab_for_size(n: u64) -> Class
+pub fn slab_for_size(n: u64) -> Result<usize, Refusal>
     ensures { result ≡ class_of n }
 {
     if n <= LONGEST_IN_FIRST {
-        return Class::Slab(0);
+        return Ok(0);
     }
     if n <= LONGEST_WITH_2 {
-        return Class::Slab(by_quarters(n));
+        return Ok(by_quarters(n));
     }
     if n <= LONGEST_WITH_8 {
-        return Class::Slab(by_halves(n));
+        return Ok(by_halves(n));
     }
-    Class::Refused(Refusal {
-        number: Refusal::TOO_LARGE,
+    Err(Refusal {
+        kind: Kind::TooLarge,
         index: 0,
     })
 }

@@ -5,14 +5,14 @@ use Prim.Native.Nat.{ℕ}
 use lib.ListN.{get_or}
 use Rattle.refusal.proofs.Outcomes.{one_by, read_back}
 use Rattle.snapshot.specs.Outcomes.{step_outcome}
-use Rattle.snapshot.specs.declared.Step.{Step}
-use Rattle.snapshot.specs.declared.Step.TheVariants as S
+use Rattle.std.specs.Prelude.{Result, Ok, Err, Option, Some, None}
+use Rattle.refusal.specs.declared.Refusal.{Refusal}
 
-abbrev step_back : List ℕ → Step
-step_back [] = S.End
+abbrev step_back : List ℕ → Result (Option (Row × Position)) Refusal
+step_back [] = (Ok None)
 step_back (v ∷ vs) =
-    S.Row (record { id = v; collection = get_or vs 0 0; location = get_or vs 1 0; key = get_or vs 4 0; length = get_or vs 5 0 })
+    (λ a b. Ok (Some (a, b))) (record { id = v; collection = get_or vs 0 0; location = get_or vs 1 0; key = get_or vs 4 0; length = get_or vs 5 0 })
     (record { block = get_or vs 2 0; row = get_or vs 3 0 })
 
-pub step_outcome_one : (a b : Step) → step_outcome a ≡ step_outcome b → a ≡ b
-step_outcome_one = one_by step_outcome (read_back step_back S.Refused) λ s. elim s as (λ k. (read_back step_back S.Refused) (step_outcome k) ≡ k) [ S.Row r next ↦ refl | S.End ↦ refl | S.Refused r ↦ refl ]
+pub step_outcome_one : (a b : Result (Option (Row × Position)) Refusal) → step_outcome a ≡ step_outcome b → a ≡ b
+step_outcome_one = one_by step_outcome (read_back step_back Err) λ s. elim s as (λ k. (read_back step_back Err) (step_outcome k) ≡ k) [ Ok (Some (r, next)) ↦ refl | (Ok None) ↦ refl | Err r ↦ refl ]

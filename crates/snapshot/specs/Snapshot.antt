@@ -1,11 +1,10 @@
 -- Requests 2026-01 and 2026-06: a file of blocks, and how it is read row by row, over the format and over the reader. Assumes nothing.
-use Rattle.std.specs.Prelude.{Bool, not, cond, ◌&&◌, List, ℕ, ◌+◌, ◌-◌, ◌*◌, ◌/◌, ◌%◌, eqb, ltb, length, take, drop}
+use Rattle.std.specs.Prelude.{Bool, not, cond, ◌&&◌, List, ℕ, ◌+◌, ◌-◌, ◌*◌, ◌/◌, ◌%◌, eqb, ltb, length, take, drop, Result, Ok, Err, Option, Some, None}
 use Rattle.refusal.specs.Refusals.{refusal, wrong_shape, wrong_block}
 use Rattle.snapshot_blocks.specs.Formats.{Format, Reader, per_block}
 use Rattle.snapshot_blocks.specs.Blocks.{count_in, version_in, wrong_in, id_at, row_at}
 use Rattle.snapshot.specs.declared.Position.{Position}
-use Rattle.snapshot.specs.declared.Step.{Step}
-use Rattle.snapshot.specs.declared.Step.TheVariants as S
+use Rattle.refusal.specs.declared.Refusal.{Refusal}
 
 -- ---- blocks
 abbrev pub block_at : ℕ → List ℕ → List ℕ
@@ -39,15 +38,15 @@ next_position number row count last =
     (record { block = number + 1; row = 0 }))
 
 -- the row at a place of a block that is right and the next position, the end, or 1 for a place that is none
-unfoldable pub step_in : Format → ℕ → ℕ → Bool → List ℕ → Step
+unfoldable pub step_in : Format → ℕ → ℕ → Bool → List ℕ → Result (Option (Row × Position)) Refusal
 step_in f number row last block =
-    cond (ltb row (count_in block)) (S.Row (row_at f (512 * number) row block) (next_position number row (count_in block) last))
-    (cond (last && eqb row (count_in block)) S.End (S.Refused (refusal wrong_shape number)))
+    cond (ltb row (count_in block)) (Ok (Some ((row_at f (512 * number) row block), (next_position number row (count_in block) last))))
+    (cond (last && eqb row (count_in block)) (Ok None) (Err (refusal wrong_shape number)))
 
 -- the row at a position and the next one, the end, or what is wrong
-unfoldable pub step_of : Format → ℕ → ℕ → List ℕ → Step
+unfoldable pub step_of : Format → ℕ → ℕ → List ℕ → Result (Option (Row × Position)) Refusal
 step_of f number row file =
-    cond (not (eqb (wrong_at f number file) 0)) (S.Refused (refusal (wrong_at f number file) number))
+    cond (not (eqb (wrong_at f number file) 0)) (Err (refusal (wrong_at f number file) number))
     (step_in f number row (is_last number file) (block_at number file))
 
 -- ---- by a reader: each block by the format that it has for the version that the block names
@@ -57,5 +56,5 @@ format_at reader number file = reader (version_in (block_at number file))
 abbrev pub wrong_by : Reader → ℕ → List ℕ → ℕ
 wrong_by reader number file = wrong_at (format_at reader number file) number file
 
-abbrev pub step_by : Reader → ℕ → ℕ → List ℕ → Step
+abbrev pub step_by : Reader → ℕ → ℕ → List ℕ → Result (Option (Row × Position)) Refusal
 step_by reader number row file = step_of (format_at reader number file) number row file

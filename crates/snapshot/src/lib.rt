@@ -3,9 +3,9 @@
 //     let mut at = Position::start();
 //     loop {
 //         match at.step(file) {
-//             Step::Row(row, next) => { .. at = next; }
-//             Step::End => break,
-//             Step::Refused(refusal) => ..,  // 1, 4, 6 or 19, and the block's number
+//             Ok(Some((row, next))) => { .. at = next; }
+//             Ok(None) => break,
+//             Err(refusal) => ..,  // 1, 4, 6 or 19, and the block's number
 //         }
 //     }
 //
@@ -20,7 +20,7 @@ ghost use Rattle.snapshot_blocks.specs.Formats.{format_of, per_block};
 ghost use Rattle.snapshot.specs.declared.Position.{Position};
 ghost use Rattle.snapshot.specs.Snapshot.{is_place, follows, wrong_by, next_position, step_in, step_by};
 
-use refusal::Refusal;
+use refusal::{Kind, Refusal};
 use snapshot_blocks::{BLOCK, Row};
 
 // Where the next row is: its block, and its place there.
@@ -28,13 +28,6 @@ use snapshot_blocks::{BLOCK, Row};
 pub struct Position {
     pub block: usize,
     pub row: usize,
-}
-
-#[derive(Clone, Copy)]
-pub enum Step {
-    Row(Row, Position),
-    End,
-    Refused(Refusal),
 }
 
 // Whether so many bytes are a whole number of blocks, and this is one of them.
@@ -65,7 +58,7 @@ pub fn wrong_at(number: usize, file: &[u8]) -> u8
     ensures { result ≡ wrong_by format_of number file.now }
 {
     if !is_place(number, file.len()) {
-        return Refusal::WRONG_SHAPE;
+        return Kind::WrongShape;
     }
     let start = BLOCK * number;
     let end = start + BLOCK;
@@ -81,7 +74,7 @@ pub fn wrong_at(number: usize, file: &[u8]) -> u8
     if follows_on(&file[before..start], &file[start..end]) {
         return 0;
     }
-    Refusal::WRONG_BLOCK
+    Kind::WrongBlock
 }
 
 // The position after a row.
@@ -123,7 +116,7 @@ fn placed(row: Row, start: usize) -> Row
 }
 
 // The step in a block that is right.
-fn step_in(number: usize, row: usize, last: bool, block: &[u8]) -> Step
+fn step_in(number: usize, row: usize, last: bool, block: &[u8]) -> Result<Option<(Row, Position)>, Refusal>
     requires { (count_in block.now ≤ per_block (format_of (version_in block.now))) × (number < 2 ^ 55) }
     ensures { result ≡ step_in (format_of (version_in block.now)) number row last block.now }
 {
@@ -132,15 +125,15 @@ fn step_in(number: usize, row: usize, last: bool, block: &[u8]) -> Step
         let start = BLOCK * number;
         let shown = placed(snapshot_blocks::row_at(block, row), start);
         let after = next_of(number, row, count, last);
-        return Step::Row(shown, after);
+        return Ok(Some((shown, after)));
     }
     if !last {
-        return Step::Refused(Refusal::at(Refusal::WRONG_SHAPE, number));
+        return Err(Refusal::at(Kind::WrongShape, number));
     }
     if row != count {
-        return Step::Refused(Refusal::at(Refusal::WRONG_SHAPE, number));
+        return Err(Refusal::at(Kind::WrongShape, number));
     }
-    Step::End
+    Ok(None)
 }
 
 impl Position {
@@ -152,14 +145,14 @@ impl Position {
     }
 
     // The row at this position with the next one, the end, or what is wrong.
-    pub fn step(self, file: &[u8]) -> Step
+    pub fn step(self, file: &[u8]) -> Result<Option<(Row, Position)>, Refusal>
         ensures { result ≡ step_by format_of self.block self.row file.now }
     {
         let number = self.block;
         let row = self.row;
         let wrong = wrong_at(number, file);
         if wrong != 0 {
-            return Step::Refused(Refusal::at(wrong, number));
+            return Err(Refusal::at(wrong, number));
         }
         let start = BLOCK * number;
         let end = start + BLOCK;

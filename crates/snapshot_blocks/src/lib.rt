@@ -18,7 +18,7 @@ ghost use Rattle.snapshot_blocks.specs.Blocks.{entry_for, AreRows, row_bytes, ro
 
 use carried::WIDTH;
 use keys::MOST_KEY;
-use refusal::Refusal;
+use refusal::Kind;
 
 pub const BLOCK: usize = 512;
 // The version that is written, and the one before, which is read.
@@ -248,13 +248,13 @@ fn wrong_in_block(block: &[u8], number: usize, last: bool) -> u8
     ensures { result ≡ wrong_in (format_of (version_in block.now)) number last block.now }
 {
     if !seal::agrees(block) {
-        return Refusal::CHECK_DIFFERS;
+        return Kind::CheckDiffers;
     }
     if !is_known(version_in(block)) {
-        return Refusal::UNKNOWN_VERSION;
+        return Kind::UnknownVersion;
     }
     if !is_right(block, number, last) {
-        return Refusal::WRONG_BLOCK;
+        return Kind::WrongBlock;
     }
     0
 }
@@ -264,7 +264,7 @@ pub fn wrong_in(block: &[u8], number: usize, last: bool) -> u8
     ensures { result ≡ judged_in (format_of (version_in block.now)) number last block.now }
 {
     if block.len() != BLOCK {
-        return Refusal::WRONG_SHAPE;
+        return Kind::WrongShape;
     }
     wrong_in_block(block, number, last)
 }

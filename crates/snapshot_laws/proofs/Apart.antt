@@ -23,7 +23,6 @@ use Rattle.snapshot_blocks.proofs.Turns.{version2_sound, format_of_sound}
 use Rattle.snapshot.specs.Snapshot.{block_at, is_place, is_last, follows, wrong_at, step_of, format_at, wrong_by}
 use Rattle.snapshot.proofs.Turns.{is_place_place, place_is_place}
 use Rattle.snapshot_lists.specs.Lists.{first_wrong, is_room, format_in, read_into}
-use Rattle.snapshot_lists.specs.declared.Taken.TheVariants as T
 use Rattle.snapshot_lists.proofs.Turns.{first_wrong_before, first_wrong_wrong}
 use Rattle.snapshot_lists.proofs.Versions.{known_first, same_format}
 use Rattle.snapshot_laws.specs.Reading.{position, ended}
@@ -31,6 +30,7 @@ use Rattle.snapshot_laws.specs.Statements.{VersionsApart, MixedStops, MixedLists
 use Rattle.snapshot_laws.proofs.Lists.{all_take, all_drop}
 use Rattle.snapshot_laws.proofs.Lent.{reads_wrong}
 use Rattle.snapshot_laws.proofs.Files.{fit_file_of, chunk, length_chunk_le, length_file_from, block_at_file_from}
+use Rattle.std.specs.Prelude.{Err}
 
 -- ---- after the version all that is wrong is 19
 wrong_in_late : (f : Format) (number : ℕ) (last : Bool) (block : List ℕ) → is_signed block ≡ true → version_in block ≡ f.version
@@ -74,7 +74,7 @@ first_wrong_is reader file n bad h g w =
 
 read_into_refused : (file ids locations carried : List ℕ) (bad : ℕ) → is_place 0 (length file) ≡ true
     → is_room (format_in file) (length file / 512) (length ids) (length locations) (length carried) ≡ true → first_wrong format_of file 0 (length file / 512) ≡ bad
-    → bad < length file / 512 → (read_into file ids locations carried).answer ≡ T.Refused (refusal (wrong_by format_of bad file) bad)
+    → bad < length file / 512 → (read_into file ids locations carried).answer ≡ Err (refusal (wrong_by format_of bad file) bad)
 unfolding read_into
 read_into_refused file ids locations carried bad p r e h = rw (p, r, e, lt-ltb bad (length file / 512) h)
 
@@ -94,7 +94,7 @@ mixed_list before file ids locations carried g p i v n room =
     let first : is_place 0 (length file) ≡ true = place_is_place 0 (length file) q.whole (omega (arith, q.within)) in
     let bad : first_wrong format_of file 0 (length file / 512) ≡ suc before =
     first_wrong_is format_of file (length file / 512) (suc before) q.within (λ j h. g j (omega arith)) (λ e. omega (arith, w, e)) in
-    read_into_refused file ids locations carried (suc before) first room bad q.within ∙ ap (λ (x : ℕ). T.Refused (refusal x (suc before))) w
+    read_into_refused file ids locations carried (suc before) first room bad q.within ∙ ap (λ (x : ℕ). Err (refusal x (suc before))) w
 
 -- ---- a version that the reader does not know
 wrong_at_unknown : (f : Format) (number : ℕ) (file : List ℕ) → is_place number (length file) ≡ true → is_signed (block_at number file) ≡ true

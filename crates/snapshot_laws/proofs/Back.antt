@@ -14,12 +14,12 @@ use Rattle.snapshot_blocks.specs.Formats.{Format, Reader, per_block}
 use Rattle.snapshot_blocks.specs.Valid.{Sound, All, Valid}
 use Rattle.snapshot_blocks.specs.Files.{file_from, file_of}
 use Rattle.snapshot.specs.Snapshot.{block_at, is_last}
-use Rattle.snapshot.specs.declared.Step.TheVariants as S
 use Rattle.snapshot_laws.specs.Reading.{shown_of, position, Reads, Knows}
 use Rattle.snapshot_laws.proofs.Files.{Fit, fit_file_of, chunk, chunk_full, chunk_last}
 use Rattle.snapshot_laws.proofs.Written.{file_length_lem, file_rows, file_count, good_file_from}
 use Rattle.snapshot_laws.proofs.Steps.{map_append, reads_last, reads_full}
 use Rattle.snapshot_blocks.proofs.Blocks.{per_block_some}
+use Rattle.std.specs.Prelude.{Ok, None}
 
 more : (f : Format) (j : ℕ) → per_block f * j + per_block f ≡ per_block f * (j + 1)
 more f j = sym (ap (λ (x : ℕ). per_block f * x) (add-one j) ∙ mul-suc (per_block f) j ∙ omega arith)
@@ -35,7 +35,7 @@ module _ (f : Format) (s : Sound f) (left : ℕ) (big : left < 2 ^ 32) (rows : L
   stand : (j : ℕ) → j ≤ left → rows_in_block f (block_at j file) ≡ chunk f j rows
   stand = file_rows f s left big rows fit a o
 
-  pub reads_from : (m j : ℕ) → j + m ≡ left → Reads reader file S.End (position j 0) (map shown_of (drop (per_block f * j) rows))
+  pub reads_from : (m j : ℕ) → j + m ≡ left → Reads reader file (Ok None) (position j 0) (map shown_of (drop (per_block f * j) rows))
   reads_from zero j e =
       let l = size in
       let z : j ≡ left = omega arith in
@@ -55,12 +55,12 @@ module _ (f : Format) (s : Sound f) (left : ℕ) (big : left < 2 ^ 32) (rows : L
       ∙ ap (λ (x : List Entry). map shown_of (chunk f j rows) ++ map shown_of x) (sym d)
       ∙ sym (map_append (chunk f j rows) (drop (per_block f) (drop (per_block f * j) rows)))
       ∙ ap (map shown_of) (take-append-drop (per_block f) (drop (per_block f * j) rows)) in
-      rw (← same) (reads_full f s file j (good_file_from f s left big rows fit a o j (omega arith)) reader known t S.End (map shown_of (drop (per_block f * (j + 1)) rows))
+      rw (← same) (reads_full f s file j (good_file_from f s left big rows fit a o j (omega arith)) reader known t (Ok None) (map shown_of (drop (per_block f * (j + 1)) rows))
       (reads_from m (j + 1) (omega arith)) (count_in (block_at j file) - 1) 0 (omega arith))
 
 -- the steps over the file of some rows show these rows, and then the end
 pub reads_file_of : (reader : Reader) (f : Format) → Knows reader f → Sound f → (rows : List Entry) → length rows < 2 ^ 32 → All (Valid f) rows → ascending rows ≡ true
-    → Reads reader (file_of f rows) S.End (position 0 0) (map shown_of rows)
+    → Reads reader (file_of f rows) (Ok None) (position 0 0) (map shown_of rows)
 unfolding file_of
 reads_file_of reader f known s rows n a o =
     let left : ℕ = (length rows - 1) / per_block f in

@@ -15,20 +15,20 @@ use Rattle.snapshot_blocks.specs.Formats.{Reader, per_block}
 use Rattle.snapshot_blocks.specs.Blocks.{count_in, row_at}
 use Rattle.snapshot_blocks.specs.declared.Row.{Row}
 use Rattle.snapshot.specs.declared.Position.{Position}
-use Rattle.snapshot.specs.declared.Step.TheVariants as S
 use Rattle.snapshot.specs.Snapshot.{block_at, is_last, next_position, step_in, step_of, format_at, wrong_by, step_by}
 use Rattle.snapshot.proofs.Turns.{is_place_place, wrong_at_good, wrong_at_count}
 use Rattle.snapshot_laws.specs.Reading.{seen_in, position, ended, showed, Ends}
+use Rattle.std.specs.Prelude.{Ok, Err, Some, None}
 
 module _ (reader : Reader) (file : List ℕ) where
   -- ---- one step
-  ends_refused : (at : Position) (r : Refusal) → step_by reader at.block at.row file ≡ S.Refused r → Ends reader file at
-  ends_refused at r e = record { stop = S.Refused r; rows = []; reads = ended at e; final = λ x n q. let z : ◌≡◌ {A = ℕ} 0 1 = cc in omega arith }
+  ends_refused : (at : Position) (r : Refusal) → step_by reader at.block at.row file ≡ Err r → Ends reader file at
+  ends_refused at r e = record { stop = Err r; rows = []; reads = ended at e; final = λ x n q. let z : ◌≡◌ {A = ℕ} 0 1 = cc in omega arith }
 
-  ends_end : (at : Position) → step_by reader at.block at.row file ≡ S.End → Ends reader file at
-  ends_end at e = record { stop = S.End; rows = []; reads = ended at e; final = λ x n q. let z : ◌≡◌ {A = ℕ} 0 1 = cc in omega arith }
+  ends_end : (at : Position) → step_by reader at.block at.row file ≡ (Ok None) → Ends reader file at
+  ends_end at e = record { stop = (Ok None); rows = []; reads = ended at e; final = λ x n q. let z : ◌≡◌ {A = ℕ} 0 1 = cc in omega arith }
 
-  ends_row : (at to : Position) (r : Row) → step_by reader at.block at.row file ≡ S.Row r to → Ends reader file to → Ends reader file at
+  ends_row : (at to : Position) (r : Row) → step_by reader at.block at.row file ≡ Ok (Some (r, to)) → Ends reader file to → Ends reader file at
   ends_row at to r e q = record { stop = q.stop; rows = seen_in file r ∷ q.rows; reads = showed at to r q.rows e q.reads; final = q.final }
 
   ends_step : (number row : ℕ)

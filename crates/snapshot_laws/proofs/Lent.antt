@@ -20,12 +20,9 @@ use Rattle.snapshot_blocks.specs.Blocks.{Entry, count_in, version_in, rows_in_bl
 use Rattle.snapshot_blocks.specs.Valid.{Sound, All}
 use Rattle.snapshot_blocks.proofs.Blocks.{per_block_some}
 use Rattle.snapshot_blocks.proofs.Turns.{format_of_sound}
-use Rattle.snapshot.specs.declared.Step.{Step}
-use Rattle.snapshot.specs.declared.Step.TheVariants as S
 use Rattle.snapshot.specs.Snapshot.{block_at, is_place, is_last, wrong_at, step_of, wrong_by, step_by}
 use Rattle.snapshot.proofs.Turns.{is_place_place}
 use Rattle.snapshot_lists.specs.Lists.{first_wrong, total, entry_at, ids_from, carried_from, locations_from, is_room, format_in, ReadInto, refusing, read_into}
-use Rattle.snapshot_lists.specs.declared.Taken.TheVariants as T
 use Rattle.snapshot_lists.proofs.Turns.{by_format, knows_format, total_fits, room, first_wrong_before, first_wrong_wrong}
 use Rattle.snapshot_lists.proofs.Rows.{not_last, full}
 use Rattle.snapshot_lists.proofs.Versions.{known_first, same_format}
@@ -33,11 +30,12 @@ use Rattle.snapshot_laws.specs.Reading.{Shown, shown_of, position, Reads, ended,
 use Rattle.snapshot_laws.specs.Lent.{entries_from, Starts, Lent}
 use Rattle.snapshot_laws.proofs.Steps.{map_append, reads_last, reads_full}
 use Rattle.snapshot_laws.proofs.Entries.{length_entries_from, entries_from_add, rows_block, rows_full, Brings, brings_block, all_total}
+use Rattle.std.specs.Prelude.{Result, Ok, Err, Option, None}
 
 -- ---- the steps
 module _ (reader : Reader) (f : Format) (s : Sound f) (file : List ℕ) (p : is_place 0 (length file) ≡ true) where
   -- from a block to the block at `to`, and on as it goes there
-  reads_to : (to : ℕ) → to < length file / 512 → (0 < to → Knows reader f) → ((i : ℕ) → i < to → wrong_at f i file ≡ 0) → (stop : Step) (rs : List Shown)
+  reads_to : (to : ℕ) → to < length file / 512 → (0 < to → Knows reader f) → ((i : ℕ) → i < to → wrong_at f i file ≡ 0) → (stop : Result (Option (Row × Position)) Refusal) (rs : List Shown)
       → Reads reader file stop (position to 0) rs → (m j : ℕ) → j + m ≡ to
       → Reads reader file stop (position j 0) (map shown_of (entries_from f file (per_block f * j) (per_block f * m)) ++ rs)
   unfolding entries_from
@@ -57,7 +55,7 @@ module _ (reader : Reader) (f : Format) (s : Sound f) (file : List ℕ) (p : is_
 
   -- nothing wrong: the steps show every row, and end
   pub reads_total : Knows reader f → ((i : ℕ) → i < length file / 512 → wrong_at f i file ≡ 0)
-      → Reads reader file S.End (position 0 0) (map shown_of (entries_from f file 0 (total f file)))
+      → Reads reader file (Ok None) (position 0 0) (map shown_of (entries_from f file 0 (total f file)))
   unfolding total
   reads_total known good =
       let w = is_place_place 0 (length file) p in
@@ -66,9 +64,9 @@ module _ (reader : Reader) (f : Format) (s : Sound f) (file : List ℕ) (p : is_
       let t : is_last last file ≡ true = eq-eqb (512 * last + 512) (length file) (omega (arith, w.whole, w.within)) in
       let c = count_in (block_at last file) in
       let z : 0 + per_block f * last ≡ per_block f * last = omega arith in
-      let r : Reads reader file S.End (position last 0) (map shown_of (entries_from f file (per_block f * last) c)) =
+      let r : Reads reader file (Ok None) (position last 0) (map shown_of (entries_from f file (per_block f * last) c)) =
       rw (← (rows_block f s file last g)) (reads_last f s file last g reader known t c 0 (omega arith)) in
-      let all = reads_to last (omega (arith, w.within)) (λ o. known) (λ i l. good i (omega arith)) S.End (map shown_of (entries_from f file (per_block f * last) c)) r last 0 (omega arith) in
+      let all = reads_to last (omega (arith, w.within)) (λ o. known) (λ i l. good i (omega arith)) (Ok None) (map shown_of (entries_from f file (per_block f * last) c)) r last 0 (omega arith) in
       let e : map shown_of (entries_from f file 0 (per_block f * last + c)) ≡ map shown_of (entries_from f file 0 (per_block f * last)) ++ map shown_of (entries_from f file (per_block f * last) c) =
       ap (map shown_of) (entries_from_add f file (per_block f * last) c 0 ∙ ap (λ (x : ℕ). entries_from f file 0 (per_block f * last) ++ entries_from f file x c) z)
       ∙ map_append (entries_from f file 0 (per_block f * last)) (entries_from f file (per_block f * last) c) in
@@ -76,11 +74,11 @@ module _ (reader : Reader) (f : Format) (s : Sound f) (file : List ℕ) (p : is_
 
   -- something wrong in a block: the steps show the rows before it, and refuse with the same number and index
   pub reads_wrong : (bad : ℕ) → bad < length file / 512 → (0 < bad → Knows reader f) → ((i : ℕ) → i < bad → wrong_at f i file ≡ 0) → (wrong_by reader bad file ≡ 0 → ⊥)
-      → Reads reader file (S.Refused (refusal (wrong_by reader bad file) bad)) (position 0 0) (map shown_of (entries_from f file 0 (per_block f * bad)))
+      → Reads reader file (Err (refusal (wrong_by reader bad file) bad)) (position 0 0) (map shown_of (entries_from f file 0 (per_block f * bad)))
   unfolding step_of
   reads_wrong bad h known g w =
-      let e : step_by reader bad 0 file ≡ S.Refused (refusal (wrong_by reader bad file) bad) = rw (ne_eqb (wrong_by reader bad file) 0 w) in
-      let all = reads_to bad h known g (S.Refused (refusal (wrong_by reader bad file) bad)) [] (ended (position bad 0) e) bad 0 (omega arith) in
+      let e : step_by reader bad 0 file ≡ Err (refusal (wrong_by reader bad file) bad) = rw (ne_eqb (wrong_by reader bad file) 0 w) in
+      let all = reads_to bad h known g (Err (refusal (wrong_by reader bad file) bad)) [] (ended (position bad 0) e) bad 0 (omega arith) in
       rw (mul-zero (per_block f), append-nil (map shown_of (entries_from f file 0 (per_block f * bad)))) at all
 
 -- ---- what the lent lists hold
@@ -144,13 +142,13 @@ choice file ids locations carried a b d =
     cond (not a) (refusing 1 0 ids locations carried) (cond (not b) (refusing 1 0 ids locations carried)
     (cond d (refusing (wrong_by format_of (first_wrong format_of file 0 (length file / 512)) file) (first_wrong format_of file 0 (length file / 512)) ids locations carried)
     (record {
-      answer = T.Rows (total (format_in file) file);
+      answer = Ok (total (format_in file) file);
       ids = ids_from (format_in file) file 0 (total (format_in file) file) ids;
       locations = locations_from (format_in file) file 0 (total (format_in file) file) locations;
       carried = carried_from (format_in file) file 0 (total (format_in file) file) carried;
     })))
 
-pub read_into_lent : (file ids locations carried : List ℕ) (n : ℕ) → (read_into file ids locations carried).answer ≡ T.Rows n
+pub read_into_lent : (file ids locations carried : List ℕ) (n : ℕ) → (read_into file ids locations carried).answer ≡ Ok n
     → (is_place 0 (length file) ≡ true) × (length file / 512 ≤ first_wrong format_of file 0 (length file / 512)) × (n ≡ total (format_in file) file)
     × Lent file ids locations carried (read_into file ids locations carried) n
 unfolding read_into
@@ -160,7 +158,7 @@ read_into_lent file ids locations carried n =
   where
     by : (a b d : Bool) → is_place 0 (length file) ≡ a → is_room (format_in file) (length file / 512) (length ids) (length locations) (length carried) ≡ b
         → ltb (first_wrong format_of file 0 (length file / 512)) (length file / 512) ≡ d
-        → (choice file ids locations carried a b d).answer ≡ T.Rows n
+        → (choice file ids locations carried a b d).answer ≡ Ok n
         → (is_place 0 (length file) ≡ true) × (length file / 512 ≤ first_wrong format_of file 0 (length file / 512)) × (n ≡ total (format_in file) file)
         × Lent file ids locations carried (choice file ids locations carried a b d) n
     by true true false p q r e =
@@ -188,13 +186,13 @@ read_into_lent file ids locations carried n =
 -- where it refuses a block, the steps show the rows of the blocks before it, and refuse with the same number and index
 pub read_into_stops : (file ids locations carried : List ℕ) (r : Refusal) → is_place 0 (length file) ≡ true
     → is_room (format_in file) (length file / 512) (length ids) (length locations) (length carried) ≡ true
-    → (read_into file ids locations carried).answer ≡ T.Refused r
-    → Reads format_of file (S.Refused r) (position 0 0) (map shown_of (entries_from (format_in file) file 0 (per_block (format_in file) * r.index)))
+    → (read_into file ids locations carried).answer ≡ Err r
+    → Reads format_of file (Err r) (position 0 0) (map shown_of (entries_from (format_in file) file 0 (per_block (format_in file) * r.index)))
 unfolding read_into
 read_into_stops file ids locations carried r p q e = by (ltb (first_wrong format_of file 0 (length file / 512)) (length file / 512)) refl (rw (p, q) at e)
   where
-    by : (d : Bool) → ltb (first_wrong format_of file 0 (length file / 512)) (length file / 512) ≡ d → (choice file ids locations carried true true d).answer ≡ T.Refused r
-        → Reads format_of file (S.Refused r) (position 0 0) (map shown_of (entries_from (format_in file) file 0 (per_block (format_in file) * r.index)))
+    by : (d : Bool) → ltb (first_wrong format_of file 0 (length file / 512)) (length file / 512) ≡ d → (choice file ids locations carried true true d).answer ≡ Err r
+        → Reads format_of file (Err r) (position 0 0) (map shown_of (entries_from (format_in file) file 0 (per_block (format_in file) * r.index)))
     by true d e =
         let n : ℕ = length file / 512 in
         let bad = first_wrong format_of file 0 n in

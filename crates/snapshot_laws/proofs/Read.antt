@@ -19,8 +19,6 @@ use Rattle.snapshot_blocks.specs.Valid.{Sound, Valid, All}
 use Rattle.snapshot_blocks.proofs.Fields.{get_at_part}
 use Rattle.snapshot_blocks.proofs.Blocks.{per_block_some}
 use Rattle.snapshot.specs.declared.Position.{Position}
-use Rattle.snapshot.specs.declared.Step.{Step}
-use Rattle.snapshot.specs.declared.Step.TheVariants as S
 use Rattle.snapshot_blocks.specs.Files.{file_from, file_of}
 use Rattle.snapshot.specs.Snapshot.{block_at, is_place, is_last, wrong_at, next_position, step_in, step_of, format_at, wrong_by, step_by}
 use Rattle.snapshot.proofs.Turns.{is_place_place, wrong_at_good}
@@ -32,33 +30,35 @@ use Rattle.snapshot_laws.proofs.Files.{Fit}
 use Rattle.snapshot_laws.proofs.Steps.{block_length}
 use Rattle.snapshot_laws.proofs.Back.{reads_from}
 use Rattle.snapshot_laws.proofs.Exact.{Rights, Follow, rows_from, file_from_rows_from, valid_rows_from, fit_rows_from, ascending_rows_from, fit_unique}
+use Rattle.std.specs.Prelude.{Result, Ok, Err, Option, Some, None}
+use Rattle.refusal.specs.declared.Refusal.{Refusal}
 
 -- ---- a step that refuses nothing stands at a block that is right
-step_good : (f : Format) (number row : ℕ) (file : List ℕ) (s : Step) → step_of f number row file ≡ s → ((r : _) → s ≡ S.Refused r → ⊥)
+step_good : (f : Format) (number row : ℕ) (file : List ℕ) (s : Result (Option (Row × Position)) Refusal) → step_of f number row file ≡ s → ((r : _) → s ≡ Err r → ⊥)
     → (wrong_at f number file ≡ 0) × (step_in f number row (is_last number file) (block_at number file) ≡ s)
 unfolding step_of
 step_good f number row file s e h = by (eqb (wrong_at f number file) 0) refl e
   where
     by : (t : Bool) → eqb (wrong_at f number file) 0 ≡ t
-        → cond (not t) (S.Refused (refusal (wrong_at f number file) number)) (step_in f number row (is_last number file) (block_at number file)) ≡ s
+        → cond (not t) (Err (refusal (wrong_at f number file) number)) (step_in f number row (is_last number file) (block_at number file)) ≡ s
         → (wrong_at f number file ≡ 0) × (step_in f number row (is_last number file) (block_at number file) ≡ s)
     by true p e = (eqb-true (wrong_at f number file) 0 p, e)
     by false p e = absurd (h (refusal (wrong_at f number file) number) (sym e))
 
-step_in_end : (f : Format) (number row : ℕ) (last : Bool) (block : List ℕ) → step_in f number row last block ≡ S.End → last ≡ true
+step_in_end : (f : Format) (number row : ℕ) (last : Bool) (block : List ℕ) → step_in f number row last block ≡ (Ok None) → last ≡ true
 unfolding step_in
 step_in_end f number row last block e = by (ltb row (count_in block)) last (eqb row (count_in block)) e
   where
-    by : (a b d : Bool) → cond a (S.Row (row_at f (512 * number) row block) (next_position number row (count_in block) last)) (cond (b && d) S.End (S.Refused (refusal 1 number))) ≡ S.End → b ≡ true
+    by : (a b d : Bool) → cond a (Ok (Some ((row_at f (512 * number) row block), (next_position number row (count_in block) last)))) (cond (b && d) (Ok None) (Err (refusal 1 number))) ≡ (Ok None) → b ≡ true
     by false true d e = refl
     by true b d e = let z : ◌≡◌ {A = ℕ} 0 1 = cc in absurd (omega arith)
     by false false d e = let z : ◌≡◌ {A = ℕ} 0 1 = cc in absurd (omega arith)
 
-step_in_row : (f : Format) (number row : ℕ) (last : Bool) (block : List ℕ) (r : Row) (at : Position) → step_in f number row last block ≡ S.Row r at → at ≡ next_position number row (count_in block) last
+step_in_row : (f : Format) (number row : ℕ) (last : Bool) (block : List ℕ) (r : Row) (at : Position) → step_in f number row last block ≡ Ok (Some (r, at)) → at ≡ next_position number row (count_in block) last
 unfolding step_in
 step_in_row f number row last block r at e = by (ltb row (count_in block)) (last && eqb row (count_in block)) e
   where
-    by : (a b : Bool) → cond a (S.Row (row_at f (512 * number) row block) (next_position number row (count_in block) last)) (cond b S.End (S.Refused (refusal 1 number))) ≡ S.Row r at → at ≡ next_position number row (count_in block) last
+    by : (a b : Bool) → cond a (Ok (Some ((row_at f (512 * number) row block), (next_position number row (count_in block) last)))) (cond b (Ok None) (Err (refusal 1 number))) ≡ Ok (Some (r, at)) → at ≡ next_position number row (count_in block) last
     by true b e = cc
     by false true e = let z : ◌≡◌ {A = ℕ} 0 1 = cc in absurd (omega arith)
     by false false e = let z : ◌≡◌ {A = ℕ} 0 1 = cc in absurd (omega arith)
@@ -79,7 +79,7 @@ next_position_further number row count last = by (ltb (row + 1) count) last
 pub step_further : Further
 step_further reader number row file r at e =
     let f = format_at reader number file in
-    let g = step_good f number row file (S.Row r at) e (λ x p. let z : ◌≡◌ {A = ℕ} 0 1 = cc in omega arith) in
+    let g = step_good f number row file (Ok (Some (r, at))) e (λ x p. let z : ◌≡◌ {A = ℕ} 0 1 = cc in omega arith) in
     rw (step_in_row f number row (is_last number file) (block_at number file) r at g.1) (next_position_further number row (count_in (block_at number file)) (is_last number file))
 
 block_le : (number row : ℕ) (to : Position) → (to ≡ position number (row + 1)) ⊎ (to ≡ position (number + 1) 0) → to.block ≤ number + 1
@@ -88,22 +88,22 @@ block_le number row to (inr e) = rw e (omega arith)
 
 module _ (reader : Reader) (file : List ℕ) where
   -- ---- every block from the position on is right
-  reads_good : (at : Position) (rs : List Shown) → Reads reader file S.End at rs → (i : ℕ) → at.block ≤ i → i < length file / 512 → wrong_by reader i file ≡ 0
+  reads_good : (at : Position) (rs : List Shown) → Reads reader file (Ok None) at rs → (i : ℕ) → at.block ≤ i → i < length file / 512 → wrong_by reader i file ≡ 0
   reads_good _ _ (ended at e) i l h =
       let f = format_at reader at.block file in
-      let g = step_good f at.block at.row file S.End e (λ r q. let z : ◌≡◌ {A = ℕ} 0 1 = cc in omega arith) in
+      let g = step_good f at.block at.row file (Ok None) e (λ r q. let z : ◌≡◌ {A = ℕ} 0 1 = cc in omega arith) in
       let t : is_last at.block file ≡ true = step_in_end f at.block at.row (is_last at.block file) (block_at at.block file) g.1 in
       let n : 512 * at.block + 512 ≡ length file = eqb-true (512 * at.block + 512) (length file) t in
       let s : i ≡ at.block = omega arith in
       rw s g.0
   reads_good _ _ (showed at to r rs e q) i l h =
       let f = format_at reader at.block file in
-      let g = step_good f at.block at.row file (S.Row r to) e (λ x p. let z : ◌≡◌ {A = ℕ} 0 1 = cc in omega arith) in
+      let g = step_good f at.block at.row file (Ok (Some (r, to))) e (λ x p. let z : ◌≡◌ {A = ℕ} 0 1 = cc in omega arith) in
       let m : to.block ≤ at.block + 1 = block_le at.block at.row to (step_further reader at.block at.row file r to e) in
       at_or_past at.block i l (λ s. rw s g.0) (λ s. reads_good to rs q i (omega arith) h)
 
   -- ---- a reading is one
-  pub reads_same : (at at' : Position) (rs ss : List Shown) → at ≡ at' → Reads reader file S.End at rs → Reads reader file S.End at' ss → rs ≡ ss
+  pub reads_same : (at at' : Position) (rs ss : List Shown) → at ≡ at' → Reads reader file (Ok None) at rs → Reads reader file (Ok None) at' ss → rs ≡ ss
   reads_same _ _ _ _ p (ended at e) (ended at' e') = refl
   reads_same _ _ _ _ p (ended at e) (showed at' to r ss e' q) =
       let s : step_by reader at.block at.row file ≡ step_by reader at'.block at'.row file = ap (λ (x : Position). step_by reader x.block x.row file) p in
@@ -118,9 +118,9 @@ module _ (reader : Reader) (file : List ℕ) where
       let rest : rs ≡ ss = reads_same to to' rs ss there q q' in
       rw (same, rest)
 
-  reads_first : (at : Position) (rs : List Shown) → Reads reader file S.End at rs → wrong_by reader at.block file ≡ 0
-  reads_first _ _ (ended at e) = (step_good (format_at reader at.block file) at.block at.row file S.End e (λ r q. let z : ◌≡◌ {A = ℕ} 0 1 = cc in omega arith)).0
-  reads_first _ _ (showed at to r rs e q) = (step_good (format_at reader at.block file) at.block at.row file (S.Row r to) e (λ x p. let z : ◌≡◌ {A = ℕ} 0 1 = cc in omega arith)).0
+  reads_first : (at : Position) (rs : List Shown) → Reads reader file (Ok None) at rs → wrong_by reader at.block file ≡ 0
+  reads_first _ _ (ended at e) = (step_good (format_at reader at.block file) at.block at.row file (Ok None) e (λ r q. let z : ◌≡◌ {A = ℕ} 0 1 = cc in omega arith)).0
+  reads_first _ _ (showed at to r rs e q) = (step_good (format_at reader at.block file) at.block at.row file (Ok (Some (r, to))) e (λ x p. let z : ◌≡◌ {A = ℕ} 0 1 = cc in omega arith)).0
 
 -- ---- the last block, told by its number
 last_same : (j left len : ℕ) → len ≡ 512 * left + 512 → eqb (512 * j + 512) len ≡ eqb j left
@@ -180,9 +180,9 @@ module _ (f : Format) (s : Sound f) (file : List ℕ) (b : Bytes file) (p : is_p
       file_rows_from ∙ ap (λ (x : ℕ). file_from f 0 x rows) (sym u)
 
   -- and every reader that knows the format shows them
-  pub reads_rows : (reader : Reader) → Knows reader f → Reads reader file S.End (position 0 0) (map shown_of rows)
+  pub reads_rows : (reader : Reader) → Knows reader f → Reads reader file (Ok None) (position 0 0) (map shown_of rows)
   reads_rows reader known =
-      subst (λ (x : List ℕ). Reads reader x S.End (position 0 0) (map shown_of rows)) (sym file_rows_from)
+      subst (λ (x : List ℕ). Reads reader x (Ok None) (position 0 0) (map shown_of rows)) (sym file_rows_from)
       (rw (mul-zero (per_block f)) at (reads_from f s left few rows fit_rows valid_rows ordered_rows reader known left 0 (omega arith)))
 
 -- ---- a file that reads to its end is what writing some rows gives, and shows these

@@ -24,7 +24,6 @@ use Rattle.snapshot_blocks.proofs.Turns.{format_of_sound, format_of_short}
 use Rattle.snapshot.specs.Snapshot.{block_at, is_place, wrong_at, wrong_by}
 use Rattle.snapshot.proofs.Turns.{place_is_place}
 use Rattle.snapshot_lists.specs.Lists.{first_wrong, total, is_room, format_in, ReadInto, read_into}
-use Rattle.snapshot_lists.specs.declared.Taken.TheVariants as T
 use Rattle.snapshot_lists.proofs.Turns.{by_format, knows_format, room_is, read_into_rows, first_wrong_wrong}
 use Rattle.snapshot_lists.proofs.Versions.{known_format}
 use Rattle.snapshot_laws.specs.Reading.{Knows, brought_by}
@@ -34,6 +33,7 @@ use Rattle.snapshot_laws.proofs.Written.{file_length_lem, good_file_from}
 use Rattle.snapshot_laws.proofs.Entries.{Brings, total_file_from, entries_file_from}
 use Rattle.snapshot_laws.proofs.Read.{left, rows, few, fit_rows, valid_rows, ordered_rows, file_rows_from, file_written}
 use Rattle.snapshot_laws.proofs.Lent.{read_into_lent}
+use Rattle.std.specs.Prelude.{Ok}
 
 -- ---- a format that this library knows
 knows_sound : (f : Format) → Knows format_of f → Sound f
@@ -53,7 +53,7 @@ unfolding brought_by
 length_brought_by [] a = refl
 length_brought_by (e ∷ es) a = length-append (brought e.carried) (brought_by es) ∙ omega (arith, a.0, length_brought_by es a.1)
 
-starts_holds : (es : List Entry) (ids locations carried : List ℕ) (t : ReadInto) → Starts es ids locations carried t → t.answer ≡ T.Rows (length es) → All Brings es → Holds es t
+starts_holds : (es : List Entry) (ids locations carried : List ℕ) (t : ReadInto) → Starts es ids locations carried t → t.answer ≡ Ok (length es) → All Brings es → Holds es t
 starts_holds es ids locations carried t s answer a =
     record {
       answered = answer;
@@ -67,7 +67,7 @@ starts_holds es ids locations carried t s answer a =
 -- what is lent of a file that was written from so many blocks
 lent_holds : (f : Format) (k : Knows format_of f) (left : ℕ) → left < 2 ^ 32 → (es : List Entry) → Fit f left es → All (Valid f) es → ascending es ≡ true
     → (file ids locations carried : List ℕ) (n : ℕ) → file ≡ file_from f 0 left es → format_in file ≡ f → n ≡ total (format_in file) file
-    → (t : ReadInto) → t.answer ≡ T.Rows n → Lent file ids locations carried t n → Holds es t
+    → (t : ReadInto) → t.answer ≡ Ok n → Lent file ids locations carried t n → Holds es t
 lent_holds f k left big es fit a o file ids locations carried n written format count t answer lent =
     let s = knows_sound f k in
     let m : n ≡ total f (file_from f 0 left es) = rw (format, written) at count in
@@ -75,7 +75,7 @@ lent_holds f k left big es fit a o file ids locations carried n written format c
     ap (λ (x : Format). entries_from x file 0 n) format ∙ ap (λ (x : List ℕ). entries_from f x 0 n) written ∙ ap (entries_from f (file_from f 0 left es) 0) m
     ∙ entries_file_from f s left big es fit a o in
     starts_holds es ids locations carried t (subst (λ (x : List Entry). Starts x ids locations carried t) same lent.starts)
-    (answer ∙ ap T.Rows (m ∙ total_file_from f s left big es fit a o)) (knows_brings f k es a)
+    (answer ∙ ap Ok (m ∙ total_file_from f s left big es fit a o)) (knows_brings f k es a)
 
 -- ---- what was written is taken
 module _ (f : Format) (k : Knows format_of f) (es : List Entry) (n : length es < 2 ^ 32) (a : All (Valid f) es) (o : ascending es ≡ true) where
@@ -130,7 +130,7 @@ module _ (f : Format) (k : Knows format_of f) (es : List Entry) (n : length es <
       let q : is_room f (length file / 512) (length ids) (length locations) (length carried) ≡ true =
       room_is f (length file / 512) (length ids) (length locations) (length carried) (rw b r) e₁ e₂ in
       let t = read_into file ids locations carried in
-      let answer : t.answer ≡ T.Rows (total f file) =
+      let answer : t.answer ≡ Ok (total f file) =
       sym (ap (λ (x : ReadInto). x.answer) (read_into_rows f file ids locations carried _ _ _ (total f file) (sym format_file_of) p q none_wrong refl refl refl refl)) in
       let lent = read_into_lent file ids locations carried (total f file) answer in
       lent_holds f k blocks few_blocks es fit_es a o file ids locations carried (total f file) whole format_file_of lent.2 t answer lent.3
@@ -139,7 +139,7 @@ module _ (f : Format) (k : Knows format_of f) (es : List Entry) (n : length es <
       whole = refl
 
 -- ---- what is taken was written
-pub read_into_wrote : (file ids locations carried : List ℕ) (n : ℕ) → Bytes file → (read_into file ids locations carried).answer ≡ T.Rows n → Wrote file (read_into file ids locations carried)
+pub read_into_wrote : (file ids locations carried : List ℕ) (n : ℕ) → Bytes file → (read_into file ids locations carried).answer ≡ Ok n → Wrote file (read_into file ids locations carried)
 read_into_wrote file ids locations carried n b answer =
     let f = format_in file in
     let s = format_of_sound (version_in (block_at 0 file)) in

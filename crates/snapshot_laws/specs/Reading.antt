@@ -1,5 +1,5 @@
 -- What it is to read a file row by row from a position to its end. Assumes nothing.
-use Rattle.std.specs.Prelude.{true, ◌≡◌, List, [], ◌∷◌, ◌++◌, map, ℕ, take, drop}
+use Rattle.std.specs.Prelude.{true, ◌≡◌, List, [], ◌∷◌, ◌++◌, map, ℕ, take, drop, Result, Ok, Option, Some}
 use Rattle.little_endian.specs.LittleEndian.{word}
 use Rattle.keys.specs.Keys.{key_of, brought}
 use Rattle.snapshot_blocks.specs.Formats.{Format, Reader}
@@ -7,10 +7,9 @@ use Rattle.snapshot_blocks.specs.Blocks.{Entry, ascending}
 use Rattle.snapshot_blocks.specs.Valid.{Valid, All}
 use Rattle.snapshot_blocks.specs.declared.Row.{Row}
 use Rattle.snapshot.specs.declared.Position.{Position}
-use Rattle.snapshot.specs.declared.Step.{Step}
-use Rattle.snapshot.specs.declared.Step.TheVariants as S
 use Rattle.snapshot_blocks.specs.Files.{file_of}
 use Rattle.snapshot.specs.Snapshot.{step_by}
+use Rattle.refusal.specs.declared.Refusal.{Refusal}
 
 -- what a user sees of a row: its numbers, and the bytes of its key
 pub record Shown : Type 0 where
@@ -31,9 +30,9 @@ abbrev pub position : ℕ → ℕ → Position
 position block row = record { block = block; row = row }
 
 -- the steps from a position show these rows, and then comes the step that is `stop`: the end, or a refusal, in the laws
-pub data Reads (reader : Reader) (file : List ℕ) (stop : Step) : Position → List Shown → Type 0 where
+pub data Reads (reader : Reader) (file : List ℕ) (stop : Result (Option (Row × Position)) Refusal) : Position → List Shown → Type 0 where
   ended : (at : Position) → step_by reader at.block at.row file ≡ stop → Reads reader file stop at []
-  showed : (at next : Position) (r : Row) (rs : List Shown) → step_by reader at.block at.row file ≡ S.Row r next → Reads reader file stop next rs
+  showed : (at next : Position) (r : Row) (rs : List Shown) → step_by reader at.block at.row file ≡ Ok (Some (r, next)) → Reads reader file stop next rs
       → Reads reader file stop at (seen_in file r ∷ rs)
 
 -- a reader knows the version of this format
@@ -52,10 +51,10 @@ pub record Was (reader : Reader) (file : List ℕ) (rs : List Shown) : Type 0 wh
 
 -- the steps from a position stop, and not at a row
 pub record Ends (reader : Reader) (file : List ℕ) (at : Position) : Type 0 where
-  pub stop : Step
+  pub stop : Result (Option (Row × Position)) Refusal
   pub rows : List Shown
   pub reads : Reads reader file stop at rows
-  pub final : (r : Row) (next : Position) → stop ≡ S.Row r next → ⊥
+  pub final : (r : Row) (next : Position) → stop ≡ Ok (Some (r, next)) → ⊥
 
 -- what the rows carry, one after the other, as a rebuild takes it
 unfoldable pub brought_by : List Entry → List ℕ

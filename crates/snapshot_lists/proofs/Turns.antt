@@ -18,7 +18,7 @@ use Rattle.snapshot.specs.Snapshot.{block_at, wrong_at, wrong_by, is_place}
 use Rattle.snapshot.proofs.Turns.{is_place_place, wrong_at_count, wrong_at_few}
 use Rattle.snapshot_lists.proofs.Versions.{known_first, same_format}
 use Rattle.snapshot_lists.specs.Lists.{first_wrong, entry_at, ids_from, carried_from, locations_from, total, is_room, format_in, ReadInto, read_into}
-use Rattle.snapshot_lists.specs.declared.Taken.TheVariants as T
+use Rattle.std.specs.Prelude.{Ok}
 
 pub minus_zero : (n : ℕ) → n - 0 ≡ n
 minus_zero n = omega arith
@@ -159,7 +159,7 @@ eightieth carried ids e =
 pub read_into_rows : (f : Format) (file ids locations carried ids' locations' carried' : List ℕ) (n : ℕ) → f ≡ format_in file → is_place 0 (length file) ≡ true
     → is_room f (length file / 512) (length ids) (length locations) (length carried) ≡ true → ltb (first_wrong format_of file 0 (length file / 512)) (length file / 512) ≡ false → n ≡ total f file
     → ids' ≡ ids_from f file 0 n ids → locations' ≡ locations_from f file 0 n locations → carried' ≡ carried_from f file 0 n carried
-    → ◌≡◌ {A = ReadInto} (record { answer = T.Rows n; ids = ids'; locations = locations'; carried = carried' }) (read_into file ids locations carried)
+    → ◌≡◌ {A = ReadInto} (record { answer = Ok n; ids = ids'; locations = locations'; carried = carried' }) (read_into file ids locations carried)
 unfolding read_into
 read_into_rows f file ids locations carried ids' locations' carried' n k p r w e e₁ e₂ e₃ = rw (← k, p, r, w, e₁, e₂, e₃, e)
 

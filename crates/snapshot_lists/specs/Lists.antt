@@ -1,13 +1,12 @@
 -- Requests 2026-01 and 2026-06: a whole snapshot read into lent lists, each block judged once. Assumes nothing.
-use Rattle.std.specs.Prelude.{Bool, not, cond, ◌&&◌, List, ℕ, zero, suc, ◌+◌, ◌-◌, ◌*◌, ◌/◌, ◌%◌, eqb, leb, ltb, length, set, drop}
+use Rattle.std.specs.Prelude.{Bool, not, cond, ◌&&◌, List, ℕ, zero, suc, ◌+◌, ◌-◌, ◌*◌, ◌/◌, ◌%◌, eqb, leb, ltb, length, set, drop, Result, Ok, Err}
 use Rattle.refusal.specs.Refusals.{refusal, wrong_shape}
 use Rattle.carried.specs.Carried.{width, put_row}
 use Rattle.keys.specs.Keys.{brought}
 use Rattle.snapshot_blocks.specs.Formats.{Format, Reader, format_of, row_length, per_block}
 use Rattle.snapshot_blocks.specs.Blocks.{Entry, count_in, entry_of}
 use Rattle.snapshot.specs.Snapshot.{block_at, is_place, format_at, wrong_by}
-use Rattle.snapshot_lists.specs.declared.Taken.{Taken}
-use Rattle.snapshot_lists.specs.declared.Taken.TheVariants as T
+use Rattle.refusal.specs.declared.Refusal.{Refusal}
 
 -- the first of so many blocks, from `number` on, with something wrong; the one after them where there is none
 unfoldable pub first_wrong : Reader → List ℕ → ℕ → ℕ → ℕ
@@ -41,14 +40,14 @@ unfoldable pub is_room : Format → ℕ → ℕ → ℕ → ℕ → Bool
 is_room f blocks ids locations carried = leb (per_block f * blocks) ids && (eqb locations ids && eqb carried (ids * width))
 
 pub record ReadInto : Type 0 where
-  pub answer : Taken
+  pub answer : Result ℕ Refusal
   pub ids : List ℕ
   pub locations : List ℕ
   pub carried : List ℕ
 
 abbrev pub refusing : ℕ → ℕ → List ℕ → List ℕ → List ℕ → ReadInto
 refusing number index ids locations carried =
-    record { answer = T.Refused (refusal number index); ids = ids; locations = locations; carried = carried }
+    record { answer = Err (refusal number index); ids = ids; locations = locations; carried = carried }
 
 -- the format of a file, by the version that its first block names; the room is asked for by it before the block is judged
 abbrev pub format_in : List ℕ → Format
@@ -63,7 +62,7 @@ read_into file ids locations carried =
     (refusing (wrong_by format_of (first_wrong format_of file 0 (length file / 512)) file)
     (first_wrong format_of file 0 (length file / 512)) ids locations carried)
     (record {
-      answer = T.Rows (total (format_in file) file);
+      answer = Ok (total (format_in file) file);
       ids = ids_from (format_in file) file 0 (total (format_in file) file) ids;
       locations = locations_from (format_in file) file 0 (total (format_in file) file) locations;
       carried = carried_from (format_in file) file 0 (total (format_in file) file) carried;

@@ -1,9 +1,7 @@
 -- The outcome of reading a snapshot into lists: the documents' number, or how many rows there are. Assumes nothing.
-use Rattle.std.specs.Prelude.{[], ◌∷◌}
-use Rattle.refusal.specs.Outcomes.{Values, granted, refused_as}
-use Rattle.snapshot_lists.specs.declared.Taken.{Taken}
-use Rattle.snapshot_lists.specs.declared.Taken.TheVariants as T
+use Rattle.std.specs.Prelude.{[], ◌∷◌, Result, Ok, Err, ℕ}
+use Rattle.refusal.specs.Outcomes.{Values, outcome_by}
+use Rattle.refusal.specs.declared.Refusal.{Refusal}
 
-abbrev pub taken_outcome : Taken → Values
-taken_outcome (T.Rows n) = granted (n ∷ [])
-taken_outcome (T.Refused r) = refused_as r
+abbrev pub taken_outcome : Result ℕ Refusal → Values
+taken_outcome r = outcome_by (λ n. (n ∷ [])) r

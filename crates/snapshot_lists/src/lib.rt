@@ -1,8 +1,8 @@
 // A whole snapshot read into lent lists (requests 2026-01 and 2026-06): every block is judged once, and only then are the rows taken.
 //
 //     match snapshot_lists::read(file, ids, locations, carried) {
-//         Taken::Rows(n) => .. &ids[..n] .. &locations[..n] .. &carried[..80 * n] ..,
-//         Taken::Refused(refusal) => ..,  // 1, 4, 6 or 19, and the block's number; the lists are as they were
+//         Ok(n) => .. &ids[..n] .. &locations[..n] .. &carried[..80 * n] ..,
+//         Err(refusal) => ..,  // 1, 4, 6 or 19, and the block's number; the lists are as they were
 //     }
 //
 // What a row carries is written as a rebuild takes it: the collection, the key's length in eight bytes, and the key, filled with zeros to 64 bytes. The
@@ -20,7 +20,7 @@ ghost use Rattle.snapshot.specs.Snapshot.{block_at, is_place, wrong_at};
 ghost use Rattle.snapshot_lists.specs.Lists.{ReadInto, first_wrong, total, ids_from, carried_from, locations_from, is_room, format_in, read_into};
 
 use carried::WIDTH;
-use refusal::Refusal;
+use refusal::{Kind, Refusal};
 use snapshot_blocks::{BLOCK, KEY_AT, LENGTH_AT, NUMBERS, ROWS_AT};
 
 // Where a row's collection and its location start.
@@ -32,12 +32,6 @@ const LOCATION_AT: usize = 16;
 const BROUGHT_LENGTH: usize = 8;
 
 const BROUGHT_KEY: usize = 16;
-
-#[derive(Clone, Copy)]
-pub enum Taken {
-    Rows(usize),
-    Refused(Refusal),
-}
 
 // The first block with something wrong, or as many as there are.
 fn first_wrong(file: &[u8], blocks: usize) -> usize
@@ -190,24 +184,24 @@ fn is_room(most: usize, blocks: usize, ids: usize, locations: usize, carried: us
 }
 
 // Reads the whole file into the lists.
-pub fn read(file: &[u8], ids: &mut [u64], locations: &mut [u64], carried: &mut [u8]) -> Taken
+pub fn read(file: &[u8], ids: &mut [u64], locations: &mut [u64], carried: &mut [u8]) -> Result<usize, Refusal>
     ensures { ◌≡◌ {A = ReadInto}
         (record { answer = result; ids = ids.new; locations = locations.new; carried = carried.new })
         (read_into file.now ids.old locations.old carried.old) }
 {
     if !snapshot::is_place(0, file.len()) {
-        return Taken::Refused(Refusal::of(Refusal::WRONG_SHAPE));
+        return Err(Refusal::of(Kind::WrongShape));
     }
     let blocks = file.len() / BLOCK;
     let most = most_of(file);
     if !is_room(most, blocks, ids.len(), locations.len(), carried.len()) {
-        return Taken::Refused(Refusal::of(Refusal::WRONG_SHAPE));
+        return Err(Refusal::of(Kind::WrongShape));
     }
     let bad = first_wrong(file, blocks);
     if bad < blocks {
-        return Taken::Refused(Refusal::at(snapshot::wrong_at(bad, file), bad));
+        return Err(Refusal::at(snapshot::wrong_at(bad, file), bad));
     }
     let n = total_of(file, most);
     take(file, n, most, width_of(file), ids, locations, carried);
-    Taken::Rows(n)
+    Ok(n)
 }

@@ -11,8 +11,6 @@ use borrow.Author.Tests.{eq-eqb, ne_eqb, lt-ltb, le-ltb}
 use Rattle.refusal.specs.Outcomes.{granted, refused}
 use Rattle.refusal.specs.Refusals.{wrong_shape, batch_open}
 use Rattle.refusal.specs.declared.Refusal.{Refusal}
-use Rattle.refusal.specs.declared.Judged.{Judged}
-use Rattle.refusal.specs.declared.Judged.TheVariants as J
 use Rattle.snapshot_blocks.specs.Formats.{version2}
 use Rattle.snapshot_blocks.specs.Blocks.{entry_for}
 use Rattle.snapshot_blocks.specs.Files.{file_of, file_length}
@@ -32,6 +30,7 @@ use Rattle.tables.proofs.LawsEntries.{bad_in_read}
 use Rattle.snapshot_writer.specs.Outcome.{Left, snapshot_leaves}
 use Rattle.snapshot_writer.specs.Writer.{stored_in, not_own}
 use Rattle.snapshot_writer.proofs.LawsRows.{few_rows}
+use Rattle.std.specs.Prelude.{Result, Ok, Err, ⊤}
 
 -- ---- the first word of the batch
 pub opened : (n : ℕ) → (n ≡ 0 → ⊥) → ltb 0 n ≡ true
@@ -130,11 +129,11 @@ module _ (m : Memory) where
       → ◌≡◌ {A = Left} (record { answer = refused r.number r.index; file = file }) (snapshot_leaves m file)
   leaves_as file r n p e = (λ i. record { answer = refused (p i).number (p i).index; file = file }) ∙ leaves_refused file n 0 e
 
-  pub leaves_verdict : (file : List ℕ) (j : Judged) (r : Refusal) → j ≡ J.Refused r → refusal (read m) (ask (snapshot file)) ≡ judged_verdict j
+  pub leaves_verdict : (file : List ℕ) (j : Result ⊤ Refusal) (r : Refusal) → j ≡ Err r → refusal (read m) (ask (snapshot file)) ≡ judged_verdict j
       → ◌≡◌ {A = Left} (record { answer = refused r.number r.index; file = file }) (snapshot_leaves m file)
   leaves_verdict file j r p e = leaves_refused file r.number r.index (e ∙ ap judged_verdict p)
 
-  pub leaves_done : (file after : List ℕ) (j : Judged) → j ≡ J.Passed → refusal (read m) (ask (snapshot file)) ≡ judged_verdict j → length after ≡ length file → after ≡ picked_file
+  pub leaves_done : (file after : List ℕ) (j : Result ⊤ Refusal) → j ≡ (Ok tt) → refusal (read m) (ask (snapshot file)) ≡ judged_verdict j → length after ≡ length file → after ≡ picked_file
       → ◌≡◌ {A = Left} (record { answer = granted (wrote after); file = after }) (snapshot_leaves m file)
   unfolding snapshot_leaves answer
   leaves_done file after j p e n w =

@@ -4,30 +4,29 @@ use mathlib.Core.Path.{◌≡◌, refl}
 use Prim.Native.Nat.{ℕ}
 use lib.ListN.{get_or}
 use Rattle.refusal.specs.Outcomes.{finished_outcome}
-use Rattle.refusal.specs.declared.Finished.{Finished}
-use Rattle.refusal.proofs.Outcomes.{one_by, read_back, finished_outcome_one}
+use Rattle.refusal.proofs.Outcomes.{outcome_one}
 use Rattle.model.specs.Outcomes.{outcome_of}
 use Rattle.model.specs.Store.{wrote}
 use Rattle.model.proofs.Outcomes.{answer_one, finished_as_outcome}
 use Rattle.snapshot_writer.specs.Outcome.{measured_answer, written_answer}
 use Rattle.snapshot_writer.specs.Outcomes.{measured_outcome}
-use Rattle.snapshot_writer.specs.declared.Measured.{Measured}
-use Rattle.snapshot_writer.specs.declared.Measured.TheVariants as M
+use Rattle.std.specs.Prelude.{Result, Ok, Err, ⊤}
+use Rattle.refusal.specs.declared.Refusal.{Refusal}
 
 -- ---- the length of a snapshot
-pub measured_outcome_one : (a b : Measured) → measured_outcome a ≡ measured_outcome b → a ≡ b
-measured_outcome_one = one_by measured_outcome (read_back (λ vs. M.Bytes (get_or vs 0 0)) M.Refused) λ m. elim m as (λ k. (read_back (λ vs. M.Bytes (get_or vs 0 0)) M.Refused) (measured_outcome k) ≡ k) [ M.Bytes n ↦ refl | M.Refused r ↦ refl ]
+pub measured_outcome_one : (a b : Result ℕ Refusal) → measured_outcome a ≡ measured_outcome b → a ≡ b
+measured_outcome_one = outcome_one _ (λ vs. (get_or vs 0 0)) (λ _. refl)
 
-pub measured_answer_outcome : (a : Measured) → outcome_of (measured_answer a) ≡ measured_outcome a
-measured_answer_outcome (M.Bytes n) = refl
-measured_answer_outcome (M.Refused r) = refl
+pub measured_answer_outcome : (a : Result ℕ Refusal) → outcome_of (measured_answer a) ≡ measured_outcome a
+measured_answer_outcome (Ok n) = refl
+measured_answer_outcome (Err r) = refl
 
-pub measured_answer_one : (a b : Measured) → measured_answer a ≡ measured_answer b → a ≡ b
+pub measured_answer_one : (a b : Result ℕ Refusal) → measured_answer a ≡ measured_answer b → a ≡ b
 measured_answer_one a b = answer_one measured_outcome measured_outcome_one a b (measured_answer_outcome a) (measured_answer_outcome b)
 
 -- ---- a snapshot written, whatever the two files hold
-pub written_answer_outcome : (a : Finished) (file : List ℕ) → outcome_of (written_answer a file) ≡ finished_outcome a
+pub written_answer_outcome : (a : Result ⊤ Refusal) (file : List ℕ) → outcome_of (written_answer a file) ≡ finished_outcome a
 written_answer_outcome a file = finished_as_outcome (wrote file) refl a
 
-pub written_answer_one : (a b : Finished) (file file' : List ℕ) → written_answer a file ≡ written_answer b file' → a ≡ b
+pub written_answer_one : (a b : Result ⊤ Refusal) (file file' : List ℕ) → written_answer a file ≡ written_answer b file' → a ≡ b
 written_answer_one a b file file' = answer_one finished_outcome finished_outcome_one a b (written_answer_outcome a file) (written_answer_outcome b file')

@@ -1,9 +1,7 @@
 -- The outcome of asking for a snapshot's length: the documents' number, or how many bytes it takes. Assumes nothing.
-use Rattle.std.specs.Prelude.{[], ◌∷◌}
-use Rattle.refusal.specs.Outcomes.{Values, granted, refused_as}
-use Rattle.snapshot_writer.specs.declared.Measured.{Measured}
-use Rattle.snapshot_writer.specs.declared.Measured.TheVariants as M
+use Rattle.std.specs.Prelude.{[], ◌∷◌, Result, Ok, Err, ℕ}
+use Rattle.refusal.specs.Outcomes.{Values, outcome_by}
+use Rattle.refusal.specs.declared.Refusal.{Refusal}
 
-abbrev pub measured_outcome : Measured → Values
-measured_outcome (M.Bytes n) = granted (n ∷ [])
-measured_outcome (M.Refused r) = refused_as r
+abbrev pub measured_outcome : Result ℕ Refusal → Values
+measured_outcome r = outcome_by (λ n. (n ∷ [])) r

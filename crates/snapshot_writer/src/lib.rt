@@ -2,12 +2,12 @@
 // that length.
 //
 //     match snapshot_writer::snapshot_length(caps, &id_marks, &locations, &batch, &tallies) {
-//         Measured::Bytes(n) => ..,           // 512 for each 5 rows begun, and 512 for none
-//         Measured::Refused(refusal) => ..,   // 1; 11, a batch is open
+//         Ok(n) => ..,           // 512 for each 5 rows begun, and 512 for none
+//         Err(refusal) => ..,   // 1; 11, a batch is open
 //     }
 //     match snapshot_writer::snapshot_write(caps, &id_marks, &locations, &slot_marks, &owners, &batch, &tallies, &carried, &mut file) {
-//         Finished::Done => ..,
-//         Finished::Refused(refusal) => ..,   // 1; 11; 13 with the row's index; the file is as it was
+//         Ok(()) => ..,
+//         Err(refusal) => ..,   // 1; 11; 13 with the row's index; the file is as it was
 //     }
 //
 // A row is a held id above 0 with a location; rows stand in the order of their ids. The ids are passed over three times: for the count,
@@ -26,17 +26,11 @@ ghost use Rattle.model.specs.Lent.{answered, lent_by};
 ghost use Rattle.snapshot_writer.specs.Outcome.{measured_answer, written_answer, Left, snapshot_leaves};
 ghost use Rattle.snapshot_writer.specs.Writer.{stored_in, not_own, block_put};
 
-use refusal::{Finished, Judged, Refusal};
+use refusal::{Kind, Refusal};
 use snapshot_blocks::{BLOCK, PER_BLOCK};
 use tables::{Capacities, get};
 
 // How long a file is.
-#[derive(Clone, Copy)]
-pub enum Measured {
-    Bytes(usize),
-    Refused(Refusal),
-}
-
 // The ids of a block's rows: how many there are in the lent list, and where the search for the next ones goes on.
 #[derive(Clone, Copy)]
 struct Gathered {
@@ -99,7 +93,7 @@ pub fn snapshot_length(
     locations: &[u64],
     batch: &[u64],
     tallies: &[u64],
-) -> Measured
+) -> Result<usize, Refusal>
     ensures { measured_answer result
         ≡ answered (ask snapshot_length) caps.ids caps.slots
         id_marks.now
@@ -114,13 +108,13 @@ pub fn snapshot_length(
         batch.len(),
         tallies.len(),
     ) {
-        return Measured::Refused(Refusal::of(Refusal::WRONG_SHAPE));
+        return Err(Refusal::of(Kind::WrongShape));
     }
     if get(batch, 0, 0) != 0 {
-        return Measured::Refused(Refusal::of(Refusal::BATCH_OPEN));
+        return Err(Refusal::of(Kind::BatchOpen));
     }
     let rows = count(caps.ids, id_marks, locations, tallies);
-    Measured::Bytes(file_length(rows))
+    Ok(file_length(rows))
 }
 
 // ---- refusal 13
@@ -154,7 +148,7 @@ fn first_bad(
     slot_marks: &[u8],
     owners: &[u64],
     tallies: &[u64],
-) -> Judged
+) -> Result<(), Refusal>
     requires { caps.ids ≤ 65536 }
     ensures { judged_verdict result
         ≡ snapshot_rows
@@ -168,12 +162,12 @@ fn first_bad(
     while i < ids {
         let stored = is_stored(ids, id_marks, locations, tallies, i);
         if bad_row(stored, slots, locations, slot_marks, owners, tallies, i) {
-            return Judged::Refused(Refusal::at(Refusal::TABLES_DISAGREE, row));
+            return Err(Refusal::at(Kind::TablesDisagree, row));
         }
         row = after(row, stored);
         i += 1;
     }
-    Judged::Passed
+    Ok(())
 }
 
 // ---- writing
@@ -284,7 +278,7 @@ pub fn snapshot_write(
     tallies: &[u64],
     carried: &[u8],
     file: &mut [u8],
-) -> Finished
+) -> Result<(), Refusal>
     ensures { ◌≡◌ {A = Left} (record { answer = written_answer result file.new; file = file.new })
         (snapshot_leaves
         (lent_by every_table caps.ids caps.slots
@@ -307,20 +301,20 @@ pub fn snapshot_write(
         tallies.len(),
         carried.len(),
     ) {
-        return Finished::Refused(Refusal::of(Refusal::WRONG_SHAPE));
+        return Err(Refusal::of(Kind::WrongShape));
     }
     let ids = caps.ids;
     let rows = count(ids, id_marks, locations, tallies);
     if file.len() != file_length(rows) {
-        return Finished::Refused(Refusal::of(Refusal::WRONG_SHAPE));
+        return Err(Refusal::of(Kind::WrongShape));
     }
     if get(batch, 0, 0) != 0 {
-        return Finished::Refused(Refusal::of(Refusal::BATCH_OPEN));
+        return Err(Refusal::of(Kind::BatchOpen));
     }
     let judged = first_bad(caps, id_marks, locations, slot_marks, owners, tallies);
-    if let Judged::Refused(refusal) = judged {
-        return Finished::Refused(refusal);
+    if let Err(refusal) = judged {
+        return Err(refusal);
     }
     put_blocks(ids, id_marks, locations, tallies, carried, rows, file);
-    Finished::Done
+    Ok(())
 }

@@ -7,9 +7,9 @@
 ghost use Rattle.std.specs.Prelude.{◌≡◌, ◌≤◌, length, replicate, IfOk};
 ghost use Rattle.stick.specs.Space.{zeros};
 
-use address::{SlabAddress, Unpacked};
-use refusal::Refusal;
-use snapshot::{Position, Step};
+use address::SlabAddress;
+use refusal::{Kind, Refusal};
+use snapshot::Position;
 use snapshot_blocks::Row;
 use std::alloc::{AllocError, Global};
 use std::env::{Env, FillError};
@@ -45,9 +45,9 @@ fn space(alloc: Global) -> Result<Vec<u8>, AllocError>
 
 fn say_slot(rt: &impl Print, location: u64) -> io::Result<()> {
     match SlabAddress::unpack(SLOTS, location) {
-        Unpacked::At(address) => print!(rt; "{} {}", address.slab, address.slot),
-        Unpacked::NoObject => print!(rt; "none none"),
-        Unpacked::Refused(_) => print!(rt; "none none"),
+        Ok(Some(address)) => print!(rt; "{} {}", address.slab, address.slot),
+        Ok(None) => print!(rt; "none none"),
+        Err(_) => print!(rt; "none none"),
     }
 }
 
@@ -96,9 +96,9 @@ fn say_row(rt: &impl Print, file: &[u8], row: Row) -> io::Result<()> {
 
 fn reason(number: u8) -> &'static str {
     match number {
-        Refusal::WRONG_SHAPE => "the file is empty, or no whole number of blocks",
-        Refusal::CHECK_DIFFERS => "its check differs: the file was damaged",
-        Refusal::UNKNOWN_VERSION => "its version is neither 1 nor 2",
+        Kind::WrongShape => "the file is empty, or no whole number of blocks",
+        Kind::CheckDiffers => "its check differs: the file was damaged",
+        Kind::UnknownVersion => "its version is neither 1 nor 2",
         _ => "its number, row count, padding, row order or version, or a key in it, is wrong",
     }
 }
@@ -115,15 +115,15 @@ fn say_rows(rt: &impl Print, file: &[u8]) -> io::Result<()> {
     let mut at = Position::start();
     for rows in 0..file.len() {
         match at.step(file) {
-            Step::Row(row, next) => {
+            Ok(Some((row, next))) => {
                 say_row(rt, file, row)?;
                 at = next;
             }
-            Step::End => return println!(rt; "rows: {rows}; every block is right"),
-            Step::Refused(refusal) => return say_refusal(rt, refusal),
+            Ok(None) => return println!(rt; "rows: {rows}; every block is right"),
+            Err(refusal) => return say_refusal(rt, refusal),
         }
     }
-    say_refusal(rt, Refusal::of(Refusal::WRONG_SHAPE))
+    say_refusal(rt, Refusal::of(Kind::WrongShape))
 }
 
 // Reads until the space is full, the file ends or a read fails: how many bytes stand there then.

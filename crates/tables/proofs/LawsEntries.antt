@@ -8,8 +8,6 @@ use Rattle.list_parts.specs.Parts.{part}
 use Rattle.list_parts.proofs.Parts.{part_at}
 use Rattle.address.specs.Address.{unit, is_location, bad_slots, unpacked, slabs}
 use Rattle.address.specs.declared.SlabAddress.{SlabAddress}
-use Rattle.address.specs.declared.Unpacked.{Unpacked}
-use Rattle.address.specs.declared.Unpacked.TheVariants as U
 use Rattle.address.proofs.Laws.{slots_range}
 use Rattle.id_allocator.specs.Counted.{hinted, quiet, counted}
 use Rattle.model.specs.Tables.{held_id, bad_at}
@@ -17,6 +15,7 @@ use Rattle.model.specs.Memory.{Memory, counted_by, counted_slabs, read}
 use Rattle.model.proofs.Locations.{is_location_says}
 use Rattle.model.proofs.Slabs.{part_counted_slabs}
 use Rattle.tables.specs.Entries.{held_in, slab_part, owns_in, bad_by, bad_in}
+use Rattle.std.specs.Prelude.{Result, Ok, Err, Option, Some, None}
 
 -- ---- ids
 pub held_in_read : (m : Memory) (i : ℕ) → held_id (read m) i ≡ held_in m.ids m.id_marks m.tallies i
@@ -56,19 +55,19 @@ pub end_part : (t : List ℕ) → take (length t - length t) (drop (length t) t)
 end_part t = rw (drop_of_length-le t {i = length t} (omega arith)) (take-nil (length t - length t))
 
 -- ---- what a `let .. else` on an unpacked location tells of its `else`
-pub else_is : {A : Type 0} (f : Unpacked → A) (d : A) → f U.NoObject ≡ d → ((r : Refusal) → f (U.Refused r) ≡ d) → (u : Unpacked) → ((a : SlabAddress) → u ≡ U.At a → ⊥) → f u ≡ d
-else_is f d p q (U.At a) k = absurd (k a refl)
-else_is f d p q U.NoObject k = p
-else_is f d p q (U.Refused r) k = q r
+pub else_is : {A : Type 0} (f : Result (Option SlabAddress) Refusal → A) (d : A) → f (Ok None) ≡ d → ((r : Refusal) → f (Err r) ≡ d) → (u : Result (Option SlabAddress) Refusal) → ((a : SlabAddress) → u ≡ Ok (Some a) → ⊥) → f u ≡ d
+else_is f d p q (Ok (Some a)) k = absurd (k a refl)
+else_is f d p q (Ok None) k = p
+else_is f d p q (Err r) k = q r
 
 -- ---- locations
 -- refusal 13 by what a location unpacks to
 module _ (cap : ℕ) (marks owners words : List ℕ) (i l : ℕ) where
-  pub bad_in_none : (u : Unpacked) → u ≡ unpacked cap l → ((a : SlabAddress) → u ≡ U.At a → ⊥) → bad_in cap marks owners words i l ≡ not (eqb l 0)
+  pub bad_in_none : (u : Result (Option SlabAddress) Refusal) → u ≡ unpacked cap l → ((a : SlabAddress) → u ≡ Ok (Some a) → ⊥) → bad_in cap marks owners words i l ≡ not (eqb l 0)
   unfolding bad_by
   bad_in_none u e k = ap (bad_by cap marks owners words i l) (sym e) ∙ else_is (bad_by cap marks owners words i l) _ refl (λ r. refl) u k
 
-  pub bad_in_at : (a : SlabAddress) → unpacked cap l ≡ U.At a → bad_in cap marks owners words i l ≡ not (owns_in cap marks owners words i a)
+  pub bad_in_at : (a : SlabAddress) → unpacked cap l ≡ Ok (Some a) → bad_in cap marks owners words i l ≡ not (owns_in cap marks owners words i a)
   unfolding bad_by
   bad_in_at a e = ap (bad_by cap marks owners words i l) e
 

@@ -3,7 +3,7 @@ ghost use Rattle.std.specs.Prelude.{◌≡◌};
 ghost use Rattle.tables.specs.Entries.{held_in, slab_part, owns_in, bad_in};
 
 use crate::{HINT, WAITING, get};
-use address::{SlabAddress, Unpacked};
+use address::SlabAddress;
 
 // Whether an id above 0 is held.
 pub fn held_id(ids: usize, id_marks: &[u8], tallies: &[u64], id: u64) -> bool
@@ -74,7 +74,7 @@ pub fn bad_location(
 ) -> bool
     ensures { result ≡ bad_in slots slot_marks.now owners.now tallies.now id location }
 {
-    let Unpacked::At(address) = SlabAddress::unpack(slots, location) else {
+    let Ok(Some(address)) = SlabAddress::unpack(slots, location) else {
         return location != 0;
     };
     !is_owner(slots, slot_marks, owners, tallies, id, address)

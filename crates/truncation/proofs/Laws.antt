@@ -31,8 +31,7 @@ use Rattle.model.proofs.Sizes.{shape_read, slab_tip_le}
 use Rattle.model.proofs.Granted.{granted_sizes}
 use Rattle.model.proofs.Verdicts.{test_ok, first_ok, then_ok, assoc}
 use Rattle.truncation.specs.Truncations.{truncated_answer}
-use Rattle.truncation.specs.declared.Truncated.{Truncated}
-use Rattle.truncation.specs.declared.Truncated.TheVariants as T
+use Rattle.std.specs.Prelude.{Result, Ok, Err, Option, Some, None}
 
 -- ---- sizes
 size_range : ℕ → Bool
@@ -88,15 +87,15 @@ cut_at_tip k high t zero e = let z : ◌≡◌ {A = ℕ} 0 1 = cc in omega arith
 cut_at_tip k high t (suc top) e = omega arith
 
 -- what a `let .. else` on the answer tells of it
-pub is_cut : (c : Cut) (r : Truncated) (length back : ℕ) → r ≡ T.Cut length back → truncated_answer r ≡ granted (truncated c) → keeps c ≡ false
+pub is_cut : (c : Cut) (r : Result (Option Cut) Refusal) (length back : ℕ) → r ≡ Ok (Some (record { length = length; given_back = back })) → truncated_answer r ≡ granted (truncated c) → keeps c ≡ false
 is_cut (cut n b) r length back k e = refl
 is_cut keep r length back k e = let z : ◌≡◌ {A = ℕ} 0 1 = cc in absurd (omega arith)
 
-pub is_kept : (c : Cut) (r : Truncated) → ((length back : ℕ) → r ≡ T.Cut length back → ⊥) → truncated_answer r ≡ granted (truncated c) → keeps c ≡ true
+pub is_kept : (c : Cut) (r : Result (Option Cut) Refusal) → ((length back : ℕ) → r ≡ Ok (Some (record { length = length; given_back = back })) → ⊥) → truncated_answer r ≡ granted (truncated c) → keeps c ≡ true
 is_kept keep r k e = refl
-is_kept (cut n b) T.Keep k e = let z : ◌≡◌ {A = ℕ} 0 1 = cc in absurd (omega arith)
-is_kept (cut n b) (T.Cut l d) k e = absurd (k l d refl)
-is_kept (cut n b) (T.Refused r) k e = let z : ◌≡◌ {A = ℕ} 0 1 = cc in absurd (omega arith)
+is_kept (cut n b) (Ok None) k e = let z : ◌≡◌ {A = ℕ} 0 1 = cc in absurd (omega arith)
+is_kept (cut n b) (Ok (Some (record { length = l; given_back = d }))) k e = absurd (k l d refl)
+is_kept (cut n b) (Err r) k e = let z : ◌≡◌ {A = ℕ} 0 1 = cc in absurd (omega arith)
 
 -- ---- the high mark
 raise_word_top : (g : List ℕ) (k tip : ℕ) → (tip ≡ 0 → ⊥) → raise_word g k tip ≡ put_word g high_words k (max (get_word g high_words k) (tip - 1))

@@ -2,10 +2,10 @@
 // request 2026-05).
 //
 //     match truncation::truncation(caps, &slot_marks, &batch, &mut tallies, slab, 80) {
-//         Truncated::Cut { length, given_back } => ..,  // cut the file to this length, which gives so many bytes back; then
+//         Ok(Some(Cut { length, given_back })) => ..,  // cut the file to this length, which gives so many bytes back; then
 //         //     truncation::cut_done(caps, &slot_marks, &batch, &mut tallies, slab, 80);
-//         Truncated::Keep => ..,
-//         Truncated::Refused(refusal) => ..,            // 1, 11, 3, 14
+//         Ok(None) => ..,
+//         Err(refusal) => ..,            // 1, 11, 3, 14
 //     }
 //
 // The high mark is the Rust's `max_live_slot_since_last_truncation`: asking raises it to the slab's top slot, a report sets it there.
@@ -27,23 +27,10 @@ ghost use Rattle.model.specs.MemoryAfter.{raise_word};
 ghost use Rattle.truncation.specs.Truncations.{asked_answer, truncated_answer};
 
 use address::SlabAddress;
-use refusal::{Finished, Refusal};
+use refusal::{Kind, Refusal};
 use tables::Capacities;
 
-#[derive(Clone, Copy)]
-pub enum Truncated {
-    Keep,
-    Cut { length: u64, given_back: u64 },
-    Refused(Refusal),
-}
-
 // The tip of a slab that may be asked for.
-#[derive(Clone, Copy)]
-enum Asked {
-    Tip(usize),
-    Refused(Refusal),
-}
-
 const LEAST_TARGET: u64 = 1;
 
 const MOST_TARGET: u64 = 86;
@@ -101,28 +88,26 @@ fn new_length(size: u64, top: u64) -> u64
 }
 
 // What becomes of the slab's file, by its tip and its stored high mark. At tip 0 it is kept.
-fn cut_at(slab: usize, high: u64, t: u64, tip: usize) -> Truncated
+fn cut_at(slab: usize, high: u64, t: u64, tip: usize) -> Result<Option<Cut>, Refusal>
     requires { (slab < slabs) × (high < most_slots) × (tip ≤ most_slots) }
     ensures { truncated_answer result ≡ granted (truncated (cut_at slab high t tip)) }
 {
     if tip == 0 {
-        return Truncated::Keep;
+        return Ok(None);
     }
     let size = sizes::slab_size(slab);
     let top = tip as u64 - 1;
     let high = larger(high, top);
     if !sparse(size, top, high, t) {
-        return Truncated::Keep;
+        return Ok(None);
     }
     let before = bytes_to(size, high);
     let length = new_length(size, top);
     if before <= length {
-        return Truncated::Keep;
+        return Ok(None);
     }
-    Truncated::Cut {
-        length,
-        given_back: before - length,
-    }
+    Ok(Some(Cut { length,
+        given_back: before - length, }))
 }
 
 // ---- what is asked
@@ -149,7 +134,7 @@ fn ask(
     tallies: &[u64],
     slab: u64,
     t: u64,
-) -> Asked
+) -> Result<usize, Refusal>
     ensures { asked_answer result
         ≡ answer_by (refusal (read (lent_to (truncation slab t) caps.ids caps.slots
         slot_marks.now
@@ -161,21 +146,21 @@ fn ask(
         tallies.now)) slab)) }
 {
     if !tables::slab_fits(caps, slot_marks.len(), batch.len(), tallies.len()) {
-        return Asked::Refused(Refusal::of(Refusal::WRONG_SHAPE));
+        return Err(Refusal::of(Kind::WrongShape));
     }
     if tables::get(batch, 0, 0) != 0 {
-        return Asked::Refused(Refusal::of(Refusal::BATCH_OPEN));
+        return Err(Refusal::of(Kind::BatchOpen));
     }
     if slab >= SlabAddress::SLABS as u64 {
-        return Asked::Refused(Refusal::of(Refusal::OUT_OF_RANGE));
+        return Err(Refusal::of(Kind::OutOfRange));
     }
     if tables::get(tallies, tables::HIGH, slab as usize) >= caps.slots as u64 {
-        return Asked::Refused(Refusal::of(Refusal::OUT_OF_RANGE));
+        return Err(Refusal::of(Kind::OutOfRange));
     }
     if !is_target(t) {
-        return Asked::Refused(Refusal::of(Refusal::RATIO_OUT_OF_RANGE));
+        return Err(Refusal::of(Kind::RatioOutOfRange));
     }
-    Asked::Tip(slab_tip(caps.slots, slot_marks, tallies, slab as usize))
+    Ok(slab_tip(caps.slots, slot_marks, tallies, slab as usize))
 }
 
 // Asking raises the high mark to the top.
@@ -199,7 +184,7 @@ pub fn truncation(
     tallies: &mut [u64],
     slab: u64,
     t: u64,
-) -> Truncated
+) -> Result<Option<Cut>, Refusal>
     ensures result_value { truncated_answer result
         ≡ answered (truncation slab t) caps.ids caps.slots
         slot_marks.now
@@ -215,13 +200,13 @@ pub fn truncation(
         tallies.old }
 {
     match ask(caps, slot_marks, batch, tallies, slab, t) {
-        Asked::Tip(tip) => {
+        Ok(tip) => {
             let slab = slab as usize;
             let high = tables::get(tallies, tables::HIGH, slab);
             raise(tallies, slab, tip);
             cut_at(slab, high, t, tip)
         }
-        Asked::Refused(refusal) => Truncated::Refused(refusal),
+        Err(refusal) => Err(refusal),
     }
 }
 
@@ -233,7 +218,7 @@ pub fn cut_done(
     tallies: &mut [u64],
     slab: u64,
     t: u64,
-) -> Finished
+) -> Result<(), Refusal>
     ensures result_value { finished_answer result
         ≡ answered (report slab t) caps.ids caps.slots
         slot_marks.now
@@ -249,15 +234,15 @@ pub fn cut_done(
         tallies.old }
 {
     match ask(caps, slot_marks, batch, tallies, slab, t) {
-        Asked::Tip(tip) => {
+        Ok(tip) => {
             let slab = slab as usize;
             let high = tables::get(tallies, tables::HIGH, slab);
-            let Truncated::Cut { .. } = cut_at(slab, high, t, tip) else {
-                return Finished::Refused(Refusal::of(Refusal::NOTHING_TO_CUT));
+            let Ok(Some(Cut { .. })) = cut_at(slab, high, t, tip) else {
+                return Err(Refusal::of(Kind::NothingToCut));
             };
             tables::put(tallies, tables::HIGH, slab, tip as u64 - 1);
-            Finished::Done
+            Ok(())
         }
-        Asked::Refused(refusal) => Finished::Refused(refusal),
+        Err(refusal) => Err(refusal),
     }
 }

@@ -1,7 +1,6 @@
 // Slab sizes, and classes and packed locations at their limits.
 use crate::say;
-use address::{Made, Packed, SlabAddress, Unpacked};
-use sizes::Class;
+use address::SlabAddress;
 use std::io;
 
 // Each entry of the constant table; what is worked out where a size is hot, in place of reading the table, is that entry.
@@ -30,8 +29,8 @@ fn class(rt: &impl Print, n: u64) -> io::Result<()> {
     say::text(rt, "class")?;
     say::number(rt, n)?;
     match sizes::slab_for_size(n) {
-        Class::Slab(slab) => say::number(rt, slab as u64),
-        Class::Refused(r) => say::refusal(rt, r),
+        Ok(slab) => say::number(rt, slab as u64),
+        Err(r) => say::refusal(rt, r),
     }?;
     say::end(rt)
 }
@@ -41,8 +40,8 @@ fn made(rt: &impl Print, slab: usize, slot: usize) -> io::Result<()> {
     say::number(rt, slab as u64)?;
     say::number(rt, slot as u64)?;
     match SlabAddress::from_slab_slot(slab, slot) {
-        Made::At(_) => say::text(rt, " made"),
-        Made::Refused(r) => say::refusal(rt, r),
+        Ok(_) => say::text(rt, " made"),
+        Err(r) => say::refusal(rt, r),
     }?;
     say::end(rt)
 }
@@ -54,8 +53,8 @@ fn packed(rt: &impl Print, slots: usize, slab: usize, slot: usize) -> io::Result
     say::number(rt, slot as u64)?;
     let a = SlabAddress { slab, slot };
     match a.pack(slots) {
-        Packed::Location(location) => say::number(rt, location),
-        Packed::Refused(r) => say::refusal(rt, r),
+        Ok(location) => say::number(rt, location),
+        Err(r) => say::refusal(rt, r),
     }?;
     say::end(rt)
 }
@@ -65,12 +64,12 @@ fn unpacked(rt: &impl Print, slots: usize, location: u64) -> io::Result<()> {
     say::number(rt, slots as u64)?;
     say::number(rt, location)?;
     match SlabAddress::unpack(slots, location) {
-        Unpacked::At(a) => {
+        Ok(Some(a)) => {
             say::number(rt, a.slab as u64)?;
             say::number(rt, a.slot as u64)
         }
-        Unpacked::NoObject => say::text(rt, " none"),
-        Unpacked::Refused(r) => say::refusal(rt, r),
+        Ok(None) => say::text(rt, " none"),
+        Err(r) => say::refusal(rt, r),
     }?;
     say::end(rt)
 }

@@ -1,7 +1,7 @@
 // Settings cookies.
+use refusal::Refusal;
 use crate::say;
 use crate::space::first;
-use refusal::{Finished, Judged};
 use settings::PersistentSettings;
 use std::io;
 
@@ -12,10 +12,10 @@ fn say_read(rt: &impl Print, s: PersistentSettings) -> io::Result<()> {
     }
 }
 
-fn say_verified(rt: &impl Print, v: Judged) -> io::Result<()> {
+fn say_verified(rt: &impl Print, v: Result<(), Refusal>) -> io::Result<()> {
     match v {
-        Judged::Passed => say::text(rt, " agrees"),
-        Judged::Refused(r) => say::refusal(rt, r),
+        Ok(()) => say::text(rt, " agrees"),
+        Err(r) => say::refusal(rt, r),
     }
 }
 
@@ -36,8 +36,8 @@ fn lent(rt: &impl Print, space: &mut [u8]) -> io::Result<()> {
     say::text(rt, "cookie-of")?;
     say::number(rt, space.len() as u64)?;
     match PersistentSettings::serialize(7, space) {
-        Finished::Done => say::text(rt, " done"),
-        Finished::Refused(r) => say::refusal(rt, r),
+        Ok(()) => say::text(rt, " done"),
+        Err(r) => say::refusal(rt, r),
     }?;
     say_read(rt, PersistentSettings::deserialize(space))?;
     say::end(rt)

@@ -1,22 +1,22 @@
 // Frames: document 01's three bytes in a slot of 64, the edges of each width of the length field, damaged slots, and slots with rubbish
 // between object and frame.
+use refusal::Refusal;
 use crate::say;
 use crate::space::{first, space};
-use frame::{Slab, Verdict};
-use refusal::Finished;
+use frame::Slab;
 use std::io;
 
-fn say_written(rt: &impl Print, w: Finished) -> io::Result<()> {
+fn say_written(rt: &impl Print, w: Result<(), Refusal>) -> io::Result<()> {
     match w {
-        Finished::Done => say::text(rt, " done"),
-        Finished::Refused(r) => say::refusal(rt, r),
+        Ok(()) => say::text(rt, " done"),
+        Err(r) => say::refusal(rt, r),
     }
 }
 
-fn say_verdict(rt: &impl Print, v: Verdict) -> io::Result<()> {
+fn say_verdict(rt: &impl Print, v: Result<usize, Refusal>) -> io::Result<()> {
     match v {
-        Verdict::Object(n) => say::number(rt, n as u64),
-        Verdict::Refused(r) => say::refusal(rt, r),
+        Ok(n) => say::number(rt, n as u64),
+        Err(r) => say::refusal(rt, r),
     }
 }
 

@@ -1,15 +1,15 @@
 // Document 01, "Run whole": eight objects of three bytes stored in order, five freed and released, and what is to be moved then.
 #![tactic(auto)]
 
-use address::{SlabAddress, Unpacked};
+use refusal::Refusal;
+use address::SlabAddress;
 use carried::WIDTH;
-use defrag::Defrag;
 use std::io;
 use tables::{BATCH_WORDS, Capacities, MOST_UPDATES, TALLY_WORDS};
 
 // One row: slab, slot and id.
 fn say_move(rt: &impl Print, id: u64, location: u64) -> io::Result<()> {
-    let Unpacked::At(address) = SlabAddress::unpack(8, location) else {
+    let Ok(Some(address)) = SlabAddress::unpack(8, location) else {
         return Ok(());
     };
     let slab = address.slab;
@@ -29,10 +29,10 @@ fn say_moves(rt: &impl Print, ids: &[u64], locations: &[u64], count: usize) -> i
     Ok(())
 }
 
-fn say_defrag(rt: &impl Print, d: Defrag, ids: &[u64], locations: &[u64]) -> io::Result<()> {
+fn say_defrag(rt: &impl Print, d: Result<usize, Refusal>, ids: &[u64], locations: &[u64]) -> io::Result<()> {
     match d {
-        Defrag::Rows(count) => say_moves(rt, ids, locations, count),
-        Defrag::Refused(_) => println!(rt; "refused"),
+        Ok(count) => say_moves(rt, ids, locations, count),
+        Err(_) => println!(rt; "refused"),
     }
 }
 

@@ -1,9 +1,9 @@
 // The store of a file's rows, and what it is asked. A word is known by its place: the ratio, what stands first behind it, the end of the group. Places are few, so
 // that no sum of them wraps.
+use refusal::Refusal;
 use crate::numbers::Number;
 use crate::{numbers, sentences, space, words};
 use reason::Reason;
-use refusal::Finished;
 use std::env::Env;
 use std::io;
 use tables::{BATCH_WORDS, Capacities, TALLY_WORDS};
@@ -23,11 +23,11 @@ fn questions(
     first: usize,
     end: usize,
     rows: usize,
-    rebuilt: Finished,
+    rebuilt: Result<(), Refusal>,
 ) -> io::Result<usize> {
     match rebuilt {
-        Finished::Done => Ok(if first < end { end - first } else { rows }),
-        Finished::Refused(refusal) => {
+        Ok(()) => Ok(if first < end { end - first } else { rows }),
+        Err(refusal) => {
             sentences::say_row(rt, refusal)?;
             Ok(0)
         }

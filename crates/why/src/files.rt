@@ -3,7 +3,6 @@ ghost use Rattle.std.specs.Prelude.{◌≤◌, length};
 
 use crate::{answers, sentences, space, words};
 use carried::WIDTH;
-use snapshot_lists::Taken;
 use std::env::Env;
 use std::fs::File;
 use std::io::{ErrorKind, Read};
@@ -57,7 +56,7 @@ fn answer_of(
     let mut locations = space::rows(rt.alloc())?;
     let mut carried = space::carried(rt.alloc())?;
     match snapshot_lists::read(file, &mut ids, &mut locations, &mut carried) {
-        Taken::Rows(n) => {
+        Ok(n) => {
             let rows = at_most(n);
             let wide = rows * WIDTH;
             answers::answer(
@@ -70,7 +69,7 @@ fn answer_of(
                 &carried[0..wide],
             )
         }
-        Taken::Refused(refusal) => sentences::say_block(rt, refusal),
+        Err(refusal) => sentences::say_block(rt, refusal),
     }
 }
 

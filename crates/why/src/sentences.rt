@@ -1,7 +1,7 @@
 // What staff read. The ratio is written as it was typed: it is known by the place of its word.
 use crate::words;
 use reason::{Reason, Standing};
-use refusal::Refusal;
+use refusal::{Kind, Refusal};
 use std::env::Env;
 use std::io;
 
@@ -98,10 +98,10 @@ fn say_refusal(rt: &impl Print, part: &str, refusal: Refusal, why: &str) -> io::
 pub fn say_block(rt: &impl Print, refusal: Refusal) -> io::Result<()> {
     let number = refusal.number;
     let why = match number {
-        Refusal::WRONG_SHAPE =>
+        Kind::WrongShape =>
             "the file is empty or cut short, could not be read to its end, or has more than the 16383 objects that this program takes; the Rust crate's example why takes any store",
-        Refusal::CHECK_DIFFERS => "its check differs: the file was damaged",
-        Refusal::UNKNOWN_VERSION => "its version is neither 1 nor 2",
+        Kind::CheckDiffers => "its check differs: the file was damaged",
+        Kind::UnknownVersion => "its version is neither 1 nor 2",
         _ => "its number, row count, padding, row order or version, or a key in it, is wrong",
     };
     say_refusal(rt, "block", refusal, why)
@@ -110,9 +110,9 @@ pub fn say_block(rt: &impl Print, refusal: Refusal) -> io::Result<()> {
 pub fn say_row(rt: &impl Print, refusal: Refusal) -> io::Result<()> {
     let number = refusal.number;
     let why = match number {
-        Refusal::NO_SUCH_ID =>
+        Kind::NoSuchId =>
             "its id is 0, or above 16383, the largest that this program takes; the Rust crate's example why takes any store",
-        Refusal::OUT_OF_RANGE =>
+        Kind::OutOfRange =>
             "its location is none, or its slot above 4095, the largest that this program takes; the Rust crate's example why takes any store",
         _ => "an earlier row has its location",
     };

@@ -10,11 +10,11 @@ use Rattle.model.specs.Lending.{move_tables}
 use Rattle.model.specs.Lent.{lent_to}
 use Rattle.model.specs.Outcomes.{outcome_of, list_in}
 use Rattle.model.proofs.Sizes.{fits_range, fits_locations, fits_slot_marks, fits_owners}
-use Rattle.defrag.specs.declared.Defrag.TheVariants.{Rows}
 use Rattle.defrag.specs.Outcomes.{defrag_outcome}
 use Rattle.defrag.proofs.Granted.{wrong, opened, ratio, given, tables_fit, ids_written, locations_written}
 use Rattle.defrag.proofs.Moves.{rows_are}
 use Rattle.defrag.proofs.objects_to_defrag.Goals as goal
+use Rattle.std.specs.Prelude.{Ok}
 
 pub returns-then-not-fits : goal.returns-then-not-fits
 returns-then-not-fits c =
@@ -67,7 +67,7 @@ returns c =
     let g = given m a.r is ls fits (sym c.get.ensures ∙ c.if-get-ne0.false) (not-false _ (sym c.bad_ratio.ensures ∙ c.if-bad_ratio.false)) in
     let q = rows_are m a.r (fits_range move_tables m f).slots_from (fits_locations move_tables m f) (fits_slot_marks move_tables m f) (fits_owners move_tables m f) in
     let e = c.list_all.ensures in (
-      ap (λ n. defrag_outcome (Rows n)) (e.0 ∙ ap length q) ∙ ap outcome_of g,
+      ap (λ n. defrag_outcome (Ok n)) (e.0 ∙ ap length q) ∙ ap outcome_of g,
       e.1 ∙ ap (λ rs. sets is 0 (ids_of rs)) q ∙ ids_written m a.r is ls fits ∙ ap (λ x. list_in 0 x is) g,
       e.2 ∙ ap (λ rs. sets ls 0 (locations_of rs)) q ∙ locations_written m a.r is ls fits ∙ ap (λ x. list_in 1 x ls) g,
     )

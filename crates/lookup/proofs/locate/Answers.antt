@@ -3,14 +3,14 @@
 use mathlib.Core.Path.{sym, ap, ◌∙◌}
 use native.Mathlib.Omega.{arith}
 use Rattle.refusal.specs.Refusals.{refusal}
-use Rattle.lookup.specs.declared.Looked.TheVariants as L
 use Rattle.lookup.proofs.Laws.{held_in_lt, located_free, located_none, located_own, located_other}
 use Rattle.lookup.proofs.locate.Goals as goal
+use Rattle.std.specs.Prelude.{Err}
 
 pub returns-then-not-held_id : goal.returns-then-not-held_id
 returns-then-not-held_id c =
     let a = c.args in
-    ap L.Refused c.of.ensures ∙ located_free a.caps.ids a.caps.slots a.id_marks.now a.locations.now a.slot_marks.now a.owners.now a.tallies.now a.id (sym c.held_id.ensures ∙ c.if-not-held_id.true)
+    ap Err c.of.ensures ∙ located_free a.caps.ids a.caps.slots a.id_marks.now a.locations.now a.slot_marks.now a.owners.now a.tallies.now a.id (sym c.held_id.ensures ∙ c.if-not-held_id.true)
 
 pub offset_bounds-locations-id : goal.offset_bounds-locations-id
 offset_bounds-locations-id c =
@@ -27,7 +27,7 @@ pub returns-in_default : goal.returns-in_default
 returns-in_default c =
     let a = c.args in
     let held = sym c.held_id.ensures ∙ c.if-not-held_id.false in
-    ap L.Refused (c.of-in_default.ensures ∙ ap (λ n. refusal n 0) c.without_address.ensures)
+    ap Err (c.of-in_default.ensures ∙ ap (λ n. refusal n 0) c.without_address.ensures)
     ∙ located_none a.caps.ids a.caps.slots a.id_marks.now a.locations.now a.slot_marks.now a.owners.now a.tallies.now a.id held c.unpack.result c.unpack.ensures c.in_default.not-At
 
 pub returns-then-not-is_owner : goal.returns-then-not-is_owner
@@ -35,7 +35,7 @@ returns-then-not-is_owner c =
     let a = c.args in
     let held = sym c.held_id.ensures ∙ c.if-not-held_id.false in
     let own = sym c.is_owner.ensures ∙ c.if-not-is_owner.true in
-    ap L.Refused c.of-then-not-is_owner.ensures
+    ap Err c.of-then-not-is_owner.ensures
     ∙ located_other a.caps.ids a.caps.slots a.id_marks.now a.locations.now a.slot_marks.now a.owners.now a.tallies.now a.id held _ (sym c.unpack.ensures ∙ c.in-At.is) own
 
 pub returns : goal.returns

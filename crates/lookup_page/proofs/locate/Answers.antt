@@ -3,15 +3,15 @@
 use mathlib.Core.Path.{sym, ap, ◌∙◌}
 use native.Mathlib.Omega.{arith}
 use Rattle.refusal.specs.Refusals.{refusal}
-use Rattle.lookup.specs.declared.Looked.TheVariants as L
 use Rattle.address.proofs.Laws.{unpacked_at}
 use Rattle.lookup.proofs.Laws.{held_in_lt, located_free, located_none, located_own, located_other}
 use Rattle.lookup_page.proofs.locate.Goals as goal
+use Rattle.std.specs.Prelude.{Err}
 
 pub returns-then-not-held_id : goal.returns-then-not-held_id
 returns-then-not-held_id c =
     let a = c.args in
-    ap L.Refused c.of.ensures ∙ located_free a.caps.ids a.caps.slots a.id_marks.now a.locations.now a.slot_marks.now a.owners.now a.tallies.now a.id (sym c.held_id.ensures ∙ c.if-not-held_id.true)
+    ap Err c.of.ensures ∙ located_free a.caps.ids a.caps.slots a.id_marks.now a.locations.now a.slot_marks.now a.owners.now a.tallies.now a.id (sym c.held_id.ensures ∙ c.if-not-held_id.true)
 
 pub offset_bounds-locations-id : goal.offset_bounds-locations-id
 offset_bounds-locations-id c =
@@ -28,7 +28,7 @@ pub returns-in_default : goal.returns-in_default
 returns-in_default c =
     let a = c.args in
     let held = sym c.held_id.ensures ∙ c.if-not-held_id.false in
-    ap L.Refused (c.of-in_default.ensures ∙ ap (λ n. refusal n 0) c.without_address.ensures)
+    ap Err (c.of-in_default.ensures ∙ ap (λ n. refusal n 0) c.without_address.ensures)
     ∙ located_none a.caps.ids a.caps.slots a.id_marks.now a.locations.now a.slot_marks.now a.owners.now a.tallies.now a.id held c.unpack.result c.unpack.ensures c.in_default.not-At
 
 pub owns-requires : goal.owns-requires
@@ -42,7 +42,7 @@ returns-then-not-owns c =
     let a = c.args in
     let held = sym c.held_id.ensures ∙ c.if-not-held_id.false in
     let own = sym c.owns.ensures ∙ c.if-not-owns.true in
-    ap L.Refused c.of-then-not-owns.ensures
+    ap Err c.of-then-not-owns.ensures
     ∙ located_other a.caps.ids a.caps.slots a.id_marks.now a.locations.now a.slot_marks.now a.owners.now a.tallies.now a.id held _ (sym c.unpack.ensures ∙ c.in-At.is) own
 
 pub returns : goal.returns

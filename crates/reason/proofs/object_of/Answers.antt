@@ -3,10 +3,10 @@ use mathlib.Core.Path.{sym, ap, ◌∙◌}
 use native.Mathlib.Nat.{zero-add}
 use lib.ListN.{get_or}
 use Rattle.address.specs.Address.{unpacked}
-use Rattle.address.specs.declared.Unpacked.TheVariants as U
 use Rattle.reason.specs.Read.{without_address}
 use Rattle.reason.proofs.Laws.{object_free, object_none, object_own, object_other}
 use Rattle.reason.proofs.object_of.Goals as goal
+use Rattle.std.specs.Prelude.{Err}
 
 pub returns-then-not-held_id : goal.returns-then-not-held_id
 returns-then-not-held_id c =
@@ -27,7 +27,7 @@ returns-then-not-is_owner c =
     let held = sym c.held_id.ensures ∙ c.if-not-held_id.false in
     let location = c.get-location.ensures ∙ ap (λ n. get_or a.locations.now n 0) (zero-add a.id) in
     let at = sym (c.unpack.ensures ∙ ap (unpacked a.caps.slots) location) ∙ c.in-At.is in
-    ap U.Refused c.of.ensures
+    ap Err c.of.ensures
     ∙ object_other a.caps.ids a.caps.slots a.id_marks.now a.locations.now a.slot_marks.now a.owners.now a.tallies.now a.id held _ at (sym c.is_owner.ensures ∙ c.if-not-is_owner.true)
 
 pub returns : goal.returns

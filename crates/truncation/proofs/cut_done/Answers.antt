@@ -2,7 +2,6 @@
 -- is answered and written. Assumes nothing.
 use mathlib.Core.Path.{sym, ap, ◌∙◌}
 use native.Mathlib.Omega.{arith}
-use Rattle.refusal.specs.declared.Finished.TheVariants as F
 use Rattle.model.specs.Store.{finished_answer}
 use Rattle.model.specs.Truncation.{cut_at, keeps}
 use Rattle.model.specs.Lending.{slab_tables}
@@ -11,6 +10,7 @@ use Rattle.truncation.specs.Truncations.{asked_answer}
 use Rattle.truncation.proofs.Laws.{asked_tip, asked_refused, is_cut, is_kept, cut_at_tip, report_keep, report_cut, report_refused}
 use borrow.Author.Rules.{rules}
 use Rattle.truncation.proofs.cut_done.Goals as goal
+use Rattle.std.specs.Prelude.{Err}
 
 pub cut_at-requires : goal.cut_at-requires
 cut_at-requires c =
@@ -27,7 +27,7 @@ returns-in_default c =
     let q = asked_tip m a.slab a.t tip (sym (ap asked_answer c.in-Tip.is) ∙ c.ask.ensures) in
     let kept = ap (λ h. keeps (cut_at a.slab h a.t tip)) (sym c.get-high.ensures) ∙ is_kept _ c.cut_at.result c.in_default.not-Cut c.cut_at.ensures in
     let r = report_keep m a.slab a.t tip q kept in
-    record { result_value = (λ i. finished_answer (F.Refused (c.of.ensures i))) ∙ sym r.0; tallies_after = sym r.1 }
+    record { result_value = (λ i. finished_answer (Err (c.of.ensures i))) ∙ sym r.0; tallies_after = sym r.1 }
 
 pub overflow_sub-tip : goal.overflow_sub-tip
 overflow_sub-tip c = let low = cut_at_tip _ _ _ _ (is_cut _ c.cut_at.result _ _ c.in-Cut.is c.cut_at.ensures) in search rules

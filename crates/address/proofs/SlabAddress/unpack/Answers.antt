@@ -2,6 +2,7 @@
 use mathlib.Core.Logic.{⊎_elim}
 use mathlib.Core.Path.{sym, ap, ◌∙◌}
 use borrow.Author.Tests.{eq-eqb, ne_eqb}
+use Rattle.std.proofs.lemmas.Result.{err_from_is_err_and}
 use Rattle.address.specs.Address.{unpacked}
 use Rattle.address.proofs.Laws.{unpacked_by, unpacked_low, unpacked_past, unpacked_made}
 use Rattle.address.proofs.SlabAddress.unpack.Goals as goal
@@ -20,14 +21,15 @@ returns-then-location-lt-UNIT c =
     let nz = ne_eqb _ _ c.if-location-eq0.false in
     ⊎_elim (λ w. unpacked_low _ _ ok nz w) (λ w. unpacked_past _ _ ok nz w.1) c.then-location-lt-UNIT.either
 
-pub returns-in-At : goal.returns-in-At
-returns-in-At c =
+pub returns : goal.returns
+returns c =
     let ok = sym c.bad_slots.ensures ∙ c.if-bad_slots.false in
     let made = unpacked_made _ _ ok (ne_eqb _ _ c.if-location-eq0.false) c.if-location-lt-UNIT.false c.if-slot-slots.false in
-    ap unpacked_by (sym c.in-At.is ∙ c.from_slab_slot.ensures) ∙ made
+    ap unpacked_by (sym c.in_ok-from_slab_slot.was ∙ c.from_slab_slot.ensures) ∙ made
 
-pub returns-in-Refused : goal.returns-in-Refused
-returns-in-Refused c =
+pub returns-in_err-from_slab_slot : goal.returns-in_err-from_slab_slot
+returns-in_err-from_slab_slot c =
     let ok = sym c.bad_slots.ensures ∙ c.if-bad_slots.false in
     let made = unpacked_made _ _ ok (ne_eqb _ _ c.if-location-eq0.false) c.if-location-lt-UNIT.false c.if-slot-slots.false in
-    ap unpacked_by (sym c.in-Refused.is ∙ c.from_slab_slot.ensures) ∙ made
+    let p = err_from_is_err_and c.from_residual.result c.from_residual.ensures.1 in
+    rw (p.1, p.2) (ap unpacked_by (sym c.in_err-from_slab_slot.was ∙ c.from_slab_slot.ensures) ∙ made)

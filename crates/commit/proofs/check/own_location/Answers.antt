@@ -2,10 +2,10 @@
 use mathlib.Core.Bool.{not}
 use mathlib.Core.Path.{sym, ap, ◌∙◌}
 use borrow.Author.Tests.{ne_eqb}
-use Rattle.refusal.specs.declared.Judged.TheVariants as J
 use Rattle.tables.proofs.LawsEntries.{bad_in_zero, bad_in_none, bad_in_at}
 use Rattle.commit.specs.Commit.{own_as}
 use Rattle.commit.proofs.check.own_location.Goals as goal
+use Rattle.std.specs.Prelude.{Err}
 
 pub returns-then-location-eq0 : goal.returns-then-location-eq0
 returns-then-location-eq0 c =
@@ -16,14 +16,14 @@ pub returns-in_default : goal.returns-in_default
 returns-in_default c =
     let a = c.args in
     let bad = bad_in_none a.slots a.slot_marks.now a.owners.now a.tallies.now a.id a.location c.unpack.result c.unpack.ensures c.in_default.not-At ∙ ap not (ne_eqb _ _ c.if-location-eq0.false) in
-    ap J.Refused c.at.ensures ∙ sym (ap (λ t. own_as t a.i) bad)
+    ap Err c.at.ensures ∙ sym (ap (λ t. own_as t a.i) bad)
 
 pub returns-then-not-is_owner : goal.returns-then-not-is_owner
 returns-then-not-is_owner c =
     let a = c.args in
     let own = sym c.is_owner.ensures ∙ c.if-not-is_owner.true in
     let bad = bad_in_at a.slots a.slot_marks.now a.owners.now a.tallies.now a.id a.location _ (sym c.unpack.ensures ∙ c.in-At.is) ∙ ap not own in
-    ap J.Refused c.at-then-not-is_owner.ensures ∙ sym (ap (λ t. own_as t a.i) bad)
+    ap Err c.at-then-not-is_owner.ensures ∙ sym (ap (λ t. own_as t a.i) bad)
 
 pub returns : goal.returns
 returns c =

@@ -1,9 +1,10 @@
 use mathlib.Core.Path.{sym, ap, ◌∙◌}
 use Rattle.exports_status.specs.Status.{status_of, values_in}
 use Rattle.exports.proofs.Laws.{exported_short, exported_is, one_word}
-use Rattle.sizes.specs.declared.Class.{Class}
 use Rattle.sizes.specs.Outcomes.{class_outcome}
 use Rattle.exports.proofs.leaves.wentuhoro_class.Goals as goal
+use Rattle.std.specs.Prelude.{Result, ℕ}
+use Rattle.refusal.specs.declared.Refusal.{Refusal}
 
 pub returns-then-slab-ne1 : goal.returns-then-slab-ne1
 returns-then-slab-ne1 c = exported_short 1 c.args.slab.now _ c.if-slab-ne1.true
@@ -12,12 +13,12 @@ pub returns-in-Slab : goal.returns-in-Slab
 returns-in-Slab c =
     let lent = c.args.slab.now in
     let e = sym c.slab_for_size.ensures ∙ c.in-Slab.is in
-    exported_is 1 lent _ _ _ c.if-slab-ne1.false (ap (λ (x : Class). status_of (class_outcome x)) e)
-    (ap (λ (x : Class). values_in (class_outcome x) lent) e ∙ one_word lent _ c.if-slab-ne1.false)
+    exported_is 1 lent _ _ _ c.if-slab-ne1.false (ap (λ (x : Result ℕ Refusal). status_of (class_outcome x)) e)
+    (ap (λ (x : Result ℕ Refusal). values_in (class_outcome x) lent) e ∙ one_word lent _ c.if-slab-ne1.false)
 
 pub returns-in-Refused : goal.returns-in-Refused
 returns-in-Refused c =
     let lent = c.args.slab.now in
     let e = sym c.slab_for_size.ensures ∙ c.in-Refused.is in
-    exported_is 1 lent _ _ _ c.if-slab-ne1.false (ap (λ (x : Class). status_of (class_outcome x)) e ∙ sym c.status.ensures)
-    (ap (λ (x : Class). values_in (class_outcome x) lent) e)
+    exported_is 1 lent _ _ _ c.if-slab-ne1.false (ap (λ (x : Result ℕ Refusal). status_of (class_outcome x)) e ∙ sym c.status.ensures)
+    (ap (λ (x : Result ℕ Refusal). values_in (class_outcome x) lent) e)

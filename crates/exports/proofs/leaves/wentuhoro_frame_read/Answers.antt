@@ -1,9 +1,10 @@
 use mathlib.Core.Path.{sym, ap, ◌∙◌}
 use Rattle.exports_status.specs.Status.{status_of, values_in}
 use Rattle.exports.proofs.Laws.{exported_short, exported_is, one_word}
-use Rattle.frame.specs.declared.Verdict.{Verdict}
 use Rattle.frame.specs.Outcomes.{verdict_outcome}
 use Rattle.exports.proofs.leaves.wentuhoro_frame_read.Goals as goal
+use Rattle.std.specs.Prelude.{Result, ℕ}
+use Rattle.refusal.specs.declared.Refusal.{Refusal}
 
 pub returns-then-length-ne1 : goal.returns-then-length-ne1
 returns-then-length-ne1 c = exported_short 1 c.args.length.now _ c.if-length-ne1.true
@@ -12,12 +13,12 @@ pub returns-in-Object : goal.returns-in-Object
 returns-in-Object c =
     let lent = c.args.length.now in
     let e = sym c.verdict.ensures ∙ c.in-Object.is in
-    exported_is 1 lent _ _ _ c.if-length-ne1.false (ap (λ (x : Verdict). status_of (verdict_outcome x)) e)
-    (ap (λ (x : Verdict). values_in (verdict_outcome x) lent) e ∙ one_word lent _ c.if-length-ne1.false)
+    exported_is 1 lent _ _ _ c.if-length-ne1.false (ap (λ (x : Result ℕ Refusal). status_of (verdict_outcome x)) e)
+    (ap (λ (x : Result ℕ Refusal). values_in (verdict_outcome x) lent) e ∙ one_word lent _ c.if-length-ne1.false)
 
 pub returns-in-Refused : goal.returns-in-Refused
 returns-in-Refused c =
     let lent = c.args.length.now in
     let e = sym c.verdict.ensures ∙ c.in-Refused.is in
-    exported_is 1 lent _ _ _ c.if-length-ne1.false (ap (λ (x : Verdict). status_of (verdict_outcome x)) e ∙ sym c.status.ensures)
-    (ap (λ (x : Verdict). values_in (verdict_outcome x) lent) e)
+    exported_is 1 lent _ _ _ c.if-length-ne1.false (ap (λ (x : Result ℕ Refusal). status_of (verdict_outcome x)) e ∙ sym c.status.ensures)
+    (ap (λ (x : Result ℕ Refusal). values_in (verdict_outcome x) lent) e)

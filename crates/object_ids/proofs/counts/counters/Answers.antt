@@ -1,26 +1,26 @@
 -- `object_ids::counters` meets its contract: the lists' lengths, then what `stats` answers; its answer tells whether the pairs are copied.
 -- Assumes nothing.
 use Rattle.std.proofs.Common.{sym, ap, ◌∙◌, arith}
-use Rattle.object_ids.specs.declared.counts.Counted.TheVariants as C
 use Rattle.model.specs.Tables.{allocators}
 use Rattle.model.specs.Outcomes.{list_in}
 use Rattle.object_ids.specs.Counts.{counters_answer, stats_answer}
 use Rattle.object_ids.proofs.LawsCounts.{counters_length, words_over, listed_first, listed_second, listed_both}
 use Rattle.object_ids.proofs.counts.counters.Goals as goal
+use Rattle.std.specs.Prelude.{Ok, Err}
 
 pub returns-then-granted-ne-ALLOCATORS : goal.returns-then-granted-ne-ALLOCATORS
 returns-then-granted-ne-ALLOCATORS c =
     let g = c.args.granted.now in
     let f = c.args.freed.now in
     let r = sym (listed_first g f _ c.if-granted-ne-ALLOCATORS.true) in
-    record { result_after = (λ i. counters_answer g f (C.Refused (c.of.ensures i))) ∙ r; granted_after = ap (λ a. list_in 0 a g) r; freed_after = ap (λ a. list_in 1 a f) r }
+    record { result_after = (λ i. counters_answer g f (Err (c.of.ensures i))) ∙ r; granted_after = ap (λ a. list_in 0 a g) r; freed_after = ap (λ a. list_in 1 a f) r }
 
 pub returns-then-freed-ne-ALLOCATORS : goal.returns-then-freed-ne-ALLOCATORS
 returns-then-freed-ne-ALLOCATORS c =
     let g = c.args.granted.now in
     let f = c.args.freed.now in
     let r = sym (listed_second g f _ c.if-granted-ne-ALLOCATORS.false c.if-freed-ne-ALLOCATORS.true) in
-    record { result_after = (λ i. counters_answer g f (C.Refused (c.of-then-freed-ne-ALLOCATORS.ensures i))) ∙ r; granted_after = ap (λ a. list_in 0 a g) r; freed_after = ap (λ a. list_in 1 a f) r }
+    record { result_after = (λ i. counters_answer g f (Err (c.of-then-freed-ne-ALLOCATORS.ensures i))) ∙ r; granted_after = ap (λ a. list_in 0 a g) r; freed_after = ap (λ a. list_in 1 a f) r }
 
 pub copy_words-requires : goal.copy_words-requires
 copy_words-requires c =
@@ -42,7 +42,7 @@ returns-in-Stats c =
     let long = c.if-granted-ne-ALLOCATORS.false in
     let long-2 = c.if-freed-ne-ALLOCATORS.false in
     let r = e ∙ sym (listed_both g f _ long long-2) in
-    record { result_after = (λ i. counters_answer (c.copy_words.ensures i) (c.copy_words-in-Stats.ensures i) (C.Stats c.in-Stats.stats)) ∙ r; granted_after = c.copy_words.ensures ∙ words_over t g 0 (omega arith) long ∙ ap (λ a. list_in 0 a g) r; freed_after = c.copy_words-in-Stats.ensures ∙ words_over t f allocators (omega arith) long-2 ∙ ap (λ a. list_in 1 a f) r }
+    record { result_after = (λ i. counters_answer (c.copy_words.ensures i) (c.copy_words-in-Stats.ensures i) (Ok c.in-Stats.stats)) ∙ r; granted_after = c.copy_words.ensures ∙ words_over t g 0 (omega arith) long ∙ ap (λ a. list_in 0 a g) r; freed_after = c.copy_words-in-Stats.ensures ∙ words_over t f allocators (omega arith) long-2 ∙ ap (λ a. list_in 1 a f) r }
 
 pub returns-in-Refused : goal.returns-in-Refused
 returns-in-Refused c =
