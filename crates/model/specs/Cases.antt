@@ -3,7 +3,8 @@
 use Rattle.std.specs.Prelude.{◌≡◌, true, false, List, [], ◌∷◌, ◌++◌, map, ℕ, ◌-◌, ◌*◌, length, replicate, pos, negsuc, Float, Result, Ok, Err, Option, Some, None}
 use Rattle.std.specs.Float.{fin}
 use Rattle.refusal.specs.Outcomes.{granted, refused}
-use Rattle.refusal.specs.Refusals.{refusal, wrong_shape, too_large, no_such_id, repeated_id, none_free, batch_open, tables_disagree, ratio_out_of_range, too_many, repeated_location, key_too_long}
+use Rattle.refusal.specs.declared.Kind.{Kind}
+use Rattle.refusal.specs.Refusals.{refusal, number_of, wrong_shape, too_large, no_such_id, repeated_id, none_free, batch_open, tables_disagree, ratio_out_of_range, too_many, repeated_location, key_too_long}
 use Rattle.sizes.specs.Sizes.{class_of}
 use Rattle.carried.specs.Carried.{width}
 use Rattle.address.specs.Address.{most_slots, packing, packed, unpacked}
@@ -144,8 +145,8 @@ page_of is = page_in (length is) is
 abbrev pub stored_at : ℕ → ℕ → Told
 stored_at l i = record { number = 0; location = l; carried = keeping i (i ∷ 7 ∷ []) }
 
-abbrev pub refused_row : ℕ → Told
-refused_row n = record { number = n; location = 0; carried = replicate width 0 }
+abbrev pub refused_row : Kind → Told
+refused_row n = record { number = number_of n; location = 0; carried = replicate width 0 }
 
 -- ids 1, 3 and 4 at slots 0, 1 and 2 of slab 0, of which slot 1 has another owner
 abbrev pub disowned : Store

@@ -1,5 +1,7 @@
 -- Requests 2026-01 and 2026-06: the column of what rows carry, call by call, and the test of their keys. Assumes nothing.
 use Rattle.std.specs.Prelude.{Bool, true, ◌||◌, List, ℕ, ◌*◌, eqb, length, replicate}
+use Rattle.refusal.specs.declared.Kind.{Kind}
+use Rattle.refusal.specs.declared.Kind.TheVariants as K
 use Rattle.refusal.specs.Refusals.{no_such_id, repeated_id, key_too_long}
 use Rattle.carried.specs.Carried.{width, put_rows, up_from, committed}
 use Rattle.keys.specs.Keys.{long_in, normal_rows, all_stored}
@@ -14,8 +16,10 @@ carries_for is bytes = eqb (length bytes) (length is * width)
 -- ---- refusal 21
 
 -- per update after 8 and 9, before 2 and 13
-abbrev pub before_keys : ℕ → Bool
-before_keys n = eqb n no_such_id || eqb n repeated_id
+abbrev pub before_keys : Kind → Bool
+before_keys K.NoSuchId = true
+before_keys K.RepeatedId = true
+before_keys k = false
 
 abbrev pub with_offered_keys : Offer → Verdict → Verdict
 with_offered_keys o v = earlier before_keys v (tests_from key_too_long 0 (long_in o.stores o.carried))

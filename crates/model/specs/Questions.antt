@@ -1,7 +1,7 @@
 -- The calls that only look: when each is refused once its tables fit, what it grants, and whether the answer remembers history, which
 -- demand 3 excepts. Assumes nothing.
 use Rattle.std.specs.Prelude.{Bool, true, false, not, ◌&&◌, ◌||◌, List, map, ℕ, suc, eqb, ltb, length, replicate}
-use Rattle.refusal.specs.Refusals.{no_such_id, tables_disagree, ratio_out_of_range, too_many}
+use Rattle.refusal.specs.Refusals.{number_of, no_such_id, tables_disagree, ratio_out_of_range, too_many}
 use Rattle.carried.specs.Carried.{width}
 use Rattle.fragmentation.specs.Cutoff.{is_ratio}
 use Rattle.model.specs.Store.{Store, Question, lookup, lookups, counters, defrag, why, snapshot_length, snapshot}
@@ -24,7 +24,7 @@ unfound s i = test (not (held_id s i) || eqb (location_of s i) 0) no_such_id 0 �
 -- what a page is told of it
 abbrev pub told_by : Verdict → ℕ → List ℕ → Told
 told_by ok l c = record { number = 0; location = l; carried = c }
-told_by (refuse n i) l c = record { number = n; location = 0; carried = replicate width 0 }
+told_by (refuse n i) l c = record { number = number_of n; location = 0; carried = replicate width 0 }
 
 abbrev pub told_of : Store → ℕ → Told
 told_of s i = told_by (unfound s i) (location_of s i) (carried_of s i)

@@ -21,14 +21,13 @@ is_last number file = eqb (512 * number + 512) (length file)
 unfoldable pub follows : Format → List ℕ → List ℕ → Bool
 follows f before block = eqb (version_in before) f.version && ltb (id_at f (per_block f - 1) before) (id_at f 0 block)
 
--- what is wrong with the block at `number` of a file: 0 for nothing
-unfoldable pub wrong_at : Format → ℕ → List ℕ → ℕ
+-- what is wrong with the block at `number` of a file
+unfoldable pub wrong_at : Format → ℕ → List ℕ → Option Kind
 wrong_at f number file =
-    cond (not (is_place number (length file))) wrong_shape
-    (cond (not (eqb (wrong_in f number (is_last number file) (block_at number file)) 0))
-    (wrong_in f number (is_last number file) (block_at number file))
-    (cond (eqb number 0) 0
-    (cond (follows f (block_at (number - 1) file) (block_at number file)) 0 wrong_block)))
+    cond (not (is_place number (length file))) (Some wrong_shape)
+    (or_else (wrong_in f number (is_last number file) (block_at number file))
+    (cond (eqb number 0) None
+    (cond (follows f (block_at (number - 1) file) (block_at number file)) None (Some wrong_block))))
 
 -- the place after a row: in the same block while it has rows, and at the end of the last
 unfoldable pub next_position : ℕ → ℕ → ℕ → Bool → Position
@@ -43,17 +42,21 @@ step_in f number row last block =
     cond (ltb row (count_in block)) (Ok (Some ((row_at f (512 * number) row block), (next_position number row (count_in block) last))))
     (cond (last && eqb row (count_in block)) (Ok None) (Err (refusal wrong_shape number)))
 
+-- refused where something is wrong with the block
+abbrev pub unless_wrong : {A : Type 0} → Option Kind → ℕ → Result A Refusal → Result A Refusal
+unless_wrong None number r = r
+unless_wrong (Some kind) number r = Err (refusal kind number)
+
 -- the row at a position and the next one, the end, or what is wrong
 unfoldable pub step_of : Format → ℕ → ℕ → List ℕ → Result (Option (Row × Position)) Refusal
 step_of f number row file =
-    cond (not (eqb (wrong_at f number file) 0)) (Err (refusal (wrong_at f number file) number))
-    (step_in f number row (is_last number file) (block_at number file))
+    unless_wrong (wrong_at f number file) number (step_in f number row (is_last number file) (block_at number file))
 
 -- ---- by a reader: each block by the format that it has for the version that the block names
 abbrev pub format_at : Reader → ℕ → List ℕ → Format
 format_at reader number file = reader (version_in (block_at number file))
 
-abbrev pub wrong_by : Reader → ℕ → List ℕ → ℕ
+abbrev pub wrong_by : Reader → ℕ → List ℕ → Option Kind
 wrong_by reader number file = wrong_at (format_at reader number file) number file
 
 abbrev pub step_by : Reader → ℕ → ℕ → List ℕ → Result (Option (Row × Position)) Refusal

@@ -18,6 +18,9 @@ use Rattle.sizes.specs.Sizes.{check_width}
 use Rattle.seal.specs.Seal.{check_of, signed, is_signed}
 use Rattle.seal.proofs.Laws.{length_signed, is_signed_signed, signed_is_signed}
 use Rattle.snapshot_blocks.specs.Formats.{Format, row_length, per_block}
+use Rattle.std.specs.Prelude.{Option, Some, None}
+use Rattle.refusal.specs.declared.Kind.{Kind}
+use Rattle.refusal.specs.Refusals.{check_differs, unknown_version, wrong_block}
 use Rattle.snapshot_blocks.specs.Blocks.{Entry, rows_bytes, block_body, block_of, number_in, count_in, version_in, rows_in_block, any_refused, is_count, padding_after, ascending, right_in, wrong_in}
 use Rattle.snapshot_blocks.specs.Valid.{Valid, All}
 use Rattle.snapshot_blocks.proofs.Fields.{field_back}
@@ -51,12 +54,12 @@ pub record Right (f : Format) (number : ℕ) (last : Bool) (block : List ℕ) : 
   pub carries : any_refused f (rows_in_block f block) ≡ false
   pub ordered : ascending (rows_in_block f block) ≡ true
 
-pub wrong_in_right : (f : Format) (number : ℕ) (last : Bool) (block : List ℕ) → wrong_in f number last block ≡ 0 → Right f number last block
+pub wrong_in_right : (f : Format) (number : ℕ) (last : Bool) (block : List ℕ) → wrong_in f number last block ≡ None → Right f number last block
 unfolding wrong_in right_in
 wrong_in_right f number last block = by (is_signed block) (eqb (version_in block) f.version) (right_in f number last block) refl refl refl
   where
     by : (t u v : Bool) → is_signed block ≡ t → eqb (version_in block) f.version ≡ u → right_in f number last block ≡ v
-        → ◌≡◌ {A = ℕ} (cond (not t) 4 (cond (not u) 6 (cond (not v) 19 0))) 0 → Right f number last block
+        → ◌≡◌ {A = Option Kind} (cond (not t) (Some check_differs) (cond (not u) (Some unknown_version) (cond (not v) (Some wrong_block) None))) None → Right f number last block
     by true true true pt pu pv e =
         let a = and_true (eqb (number_in block) number) _ pv in
         let b = and_true (is_count f number last (count_in block)) _ a.1 in
@@ -71,11 +74,11 @@ wrong_in_right f number last block = by (is_signed block) (eqb (version_in block
           carries = not-true _ g.0;
           ordered = g.1;
         }
-    by false u v pt pu pv e = absurd (omega arith)
-    by true false v pt pu pv e = absurd (omega arith)
-    by true true false pt pu pv e = absurd (omega arith)
+    by false u v pt pu pv e = let n : ◌≡◌ {A = ℕ} 0 1 = cc in absurd (omega arith)
+    by true false v pt pu pv e = let n : ◌≡◌ {A = ℕ} 0 1 = cc in absurd (omega arith)
+    by true true false pt pu pv e = let n : ◌≡◌ {A = ℕ} 0 1 = cc in absurd (omega arith)
 
-pub right_wrong_in : (f : Format) (number : ℕ) (last : Bool) (block : List ℕ) → Right f number last block → wrong_in f number last block ≡ 0
+pub right_wrong_in : (f : Format) (number : ℕ) (last : Bool) (block : List ℕ) → Right f number last block → wrong_in f number last block ≡ None
 unfolding wrong_in right_in
 right_wrong_in f number last block r =
     rw (r.intact, eq-eqb (version_in block) f.version r.versioned, eq-eqb (number_in block) number r.numbered, r.counted, r.padded, r.carries, r.ordered)

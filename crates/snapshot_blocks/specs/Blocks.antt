@@ -1,6 +1,7 @@
 -- Requests 2026-01 and 2026-06: the rows of a snapshot and their blocks of 512 bytes, over the format. Assumes nothing.
-use Rattle.std.specs.Prelude.{Bool, true, false, not, cond, ◌&&◌, ◌||◌, List, [], ◌∷◌, ◌++◌, ℕ, zero, suc, ◌+◌, ◌-◌, ◌*◌, ◌/◌, ◌≤◌, ◌<◌, min, eqb, leb, ltb, length, get_or, take, drop, replicate}
+use Rattle.std.specs.Prelude.{Bool, true, false, not, cond, ◌&&◌, ◌||◌, List, [], ◌∷◌, ◌++◌, ℕ, zero, suc, ◌+◌, ◌-◌, ◌*◌, ◌/◌, ◌≤◌, ◌<◌, min, eqb, leb, ltb, length, get_or, take, drop, replicate, Option, Some, None}
 use Rattle.refusal.specs.Refusals.{wrong_shape, check_differs, unknown_version, wrong_block}
+use Rattle.refusal.specs.declared.Kind.{Kind}
 use Rattle.list_parts.specs.Parts.{part}
 use Rattle.little_endian.specs.LittleEndian.{bytes_of, get_at}
 use Rattle.zeros.specs.Zeros.{all_zero}
@@ -95,16 +96,16 @@ right_in f number last block =
     eqb (number_in block) number && (is_count f number last (count_in block) && (all_zero (padding_after f (count_in block) block)
     && (not (any_refused f (rows_in_block f block)) && ascending (rows_in_block f block))))
 
--- what is wrong in it by itself: 0 for nothing
-unfoldable pub wrong_in : Format → ℕ → Bool → List ℕ → ℕ
+-- what is wrong in it by itself
+unfoldable pub wrong_in : Format → ℕ → Bool → List ℕ → Option Kind
 wrong_in f number last block =
-    cond (not (is_signed block)) check_differs
-    (cond (not (eqb (version_in block) f.version)) unknown_version
-    (cond (not (right_in f number last block)) wrong_block 0))
+    cond (not (is_signed block)) (Some check_differs)
+    (cond (not (eqb (version_in block) f.version)) (Some unknown_version)
+    (cond (not (right_in f number last block)) (Some wrong_block) None))
 
 -- the same of bytes of any length: 1 where they are no 512
-unfoldable pub judged_in : Format → ℕ → Bool → List ℕ → ℕ
-judged_in f number last block = cond (eqb (length block) 512) (wrong_in f number last block) wrong_shape
+unfoldable pub judged_in : Format → ℕ → Bool → List ℕ → Option Kind
+judged_in f number last block = cond (eqb (length block) 512) (wrong_in f number last block) (Some wrong_shape)
 
 -- the id of the row at a place of a block
 abbrev pub id_at : Format → ℕ → List ℕ → ℕ

@@ -243,28 +243,28 @@ fn is_right(block: &[u8], number: usize, last: bool) -> bool
 }
 
 // What is wrong in a block that has its length.
-fn wrong_in_block(block: &[u8], number: usize, last: bool) -> u8
+fn wrong_in_block(block: &[u8], number: usize, last: bool) -> Option<Kind>
     requires { length block.now ≡ 512 }
     ensures { result ≡ wrong_in (format_of (version_in block.now)) number last block.now }
 {
     if !seal::agrees(block) {
-        return Kind::CheckDiffers;
+        return Some(Kind::CheckDiffers);
     }
     if !is_known(version_in(block)) {
-        return Kind::UnknownVersion;
+        return Some(Kind::UnknownVersion);
     }
     if !is_right(block, number, last) {
-        return Kind::WrongBlock;
+        return Some(Kind::WrongBlock);
     }
-    0
+    None
 }
 
-// What is wrong in the block at `number` by itself, 0 for nothing.
-pub fn wrong_in(block: &[u8], number: usize, last: bool) -> u8
+// What is wrong in the block at `number` by itself.
+pub fn wrong_in(block: &[u8], number: usize, last: bool) -> Option<Kind>
     ensures { result ≡ judged_in (format_of (version_in block.now)) number last block.now }
 {
     if block.len() != BLOCK {
-        return Kind::WrongShape;
+        return Some(Kind::WrongShape);
     }
     wrong_in_block(block, number, last)
 }
