@@ -10,6 +10,7 @@ use lib.Dec.{eqb, ltb}
 use lib.ListN.{length, get_or, take, drop, set}
 use lib.Seq.{sets, drop-length}
 use borrow.Author.Tests.{eqb-true, eq-eqb, ne_eqb, not-true, not-false, lt-ltb, le-ltb}
+use Rattle.refusal.specs.declared.Kind.{Kind}
 use Rattle.refusal.specs.Refusals.{wrong_shape, no_such_id, repeated_id, batch_open, too_many, key_too_long}
 use Rattle.refusal.specs.declared.Refusal.{Refusal}
 use Rattle.refusal.proofs.Tests.{and_true}
@@ -111,7 +112,7 @@ module _ (bs rows : List ℕ) where
 
 -- ---- what an offer leaves
 module _ (m : Memory) (o : Offer) where
-  pub leaves_refused : (n i : ℕ) → refusal (read m) (offer o) ≡ refuse n i
+  pub leaves_refused : (n : Kind) (i : ℕ) → refusal (read m) (offer o) ≡ refuse n i
       → record { answer = refused n i; slot_marks = m.slot_marks; batch = m.batch; tallies = m.tallies; carried = m.carried; placed = o.placed } ≡ offer_leaves m o
   unfolding offer_leaves answer memory_after
   leaves_refused n i e = rw e

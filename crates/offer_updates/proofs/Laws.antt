@@ -11,6 +11,7 @@ use lib.Dec.{leb, ltb, eqb}
 use lib.ListN.{length, get_or, drop, set, drop_of_length-le}
 use lib.Seq.{sets, drop-cons, set_out, get_or-set_same, get_or-set_other}
 use borrow.Author.Tests.{eq-eqb, ne_eqb, ltb-false}
+use Rattle.refusal.specs.declared.Kind.{Kind}
 use Rattle.refusal.specs.declared.Refusal.{Refusal}
 use Rattle.refusal.specs.Refusals.{too_large}
 use Rattle.refusal.proofs.Tests.{clash, by_test}
@@ -96,7 +97,7 @@ before_not x is (suc j) h n =
 pub say_at_none : (n i : ℕ) (v : Verdict) → n ≡ 0 → say_at n i v ≡ v
 say_at_none n i v e = rw e
 
-pub say_at_some : (n i : ℕ) (v : Verdict) → (n ≡ 0 → ⊥) → say_at n i v ≡ refuse n i
+pub say_at_some : (n : Kind) (i : ℕ) (v : Verdict) → (n ≡ 0 → ⊥) → say_at n i v ≡ refuse n i
 say_at_some zero i v h = absurd (h refl)
 say_at_some (suc n) i v h = refl
 
