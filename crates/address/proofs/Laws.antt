@@ -84,6 +84,13 @@ module _ (slots location : ℕ) (ok : bad_slots slots ≡ false) (nz : eqb locat
       let b : leb slabs (location / unit - 1) ≡ true = le-leb slabs (location / unit - 1) (omega (arith, leb-false (location / unit) slabs t)) in
       simp (ok, nz, low, t, b))
 
+-- what unpacks to nothing, or is refused, has no address
+pub none_unpacked : (u : Result (Option SlabAddress) Refusal) → u ≡ Ok None → (a : SlabAddress) → u ≡ Ok (Some a) → ⊥
+none_unpacked u e a f = let n : ◌≡◌ {A = ℕ} 0 1 = cc in omega arith
+
+pub none_refused : (u : Result (Option SlabAddress) Refusal) (r : Refusal) → u ≡ Err r → (a : SlabAddress) → u ≡ Ok (Some a) → ⊥
+none_refused u r e a f = let n : ◌≡◌ {A = ℕ} 0 1 = cc in omega arith
+
 -- ---- made
 -- the address that is made is the one that was asked for
 pub made_at : (slab slot : ℕ) (a : SlabAddress) → made_of slab slot ≡ Ok a → ◌≡◌ {A = SlabAddress} (record { slab = slab; slot = slot }) a

@@ -4,6 +4,7 @@ use mathlib.Core.Path.{◌≡◌, sym, ap, ◌∙◌}
 use Prim.Native.Nat.{ℕ, pred}
 use native.Mathlib.Omega.{arith}
 use lib.ListN.{length, get_or}
+use Rattle.refusal.specs.declared.Kind.{Kind}
 use Rattle.refusal.specs.declared.Refusal.{Refusal}
 use Rattle.model.specs.Store.{Row, Call}
 use Rattle.refusal.specs.Outcomes.{granted, refused}
@@ -46,11 +47,11 @@ module _ (m : Memory) (call : Call) (bad : Row → Bool) (fit : fits (lending_of
 
 -- ---- refused, and granted
 module _ (m : Memory) (call : Call) where
-  pub refused_answer : (number index : ℕ) → refusal (read m) call ≡ refuse number index → answer (read m) call ≡ refused number index
+  pub refused_answer : (number : Kind) (index : ℕ) → refusal (read m) call ≡ refuse number index → answer (read m) call ≡ refused number index
   unfolding answer
   refused_answer number index e = rw e
 
-  pub refused_after : (number index : ℕ) → refusal (read m) call ≡ refuse number index → memory_after m call ≡ m
+  pub refused_after : (number : Kind) (index : ℕ) → refusal (read m) call ≡ refuse number index → memory_after m call ≡ m
   unfolding memory_after
   refused_after number index e = rw e
 

@@ -10,6 +10,7 @@ use lib.Dec.{ltb}
 use lib.ListN.{length, length-replicate, length-set, get_or, set, replicate}
 use lib.Seq.{get_or-set_other}
 use borrow.Author.Tests.{ltb-true, ltb-false, eqb-true, not-false}
+use Rattle.refusal.specs.declared.Kind.{Kind}
 use Rattle.refusal.proofs.Tests.{and_true}
 use Rattle.list_parts.specs.Lists.{elem}
 use Rattle.list_parts.proofs.Lists.{elem_not}
@@ -54,7 +55,7 @@ pub record Small (b : ℕ) (v : Verdict) : Type 0 where
 small : (b : ℕ) (v : Verdict) → number_of v < 256 → index_of v < b → Small b v
 small b v h k = record { number = h; index = k }
 
-small_test : (b : ℕ) (t : Bool) (n i : ℕ) → n < 256 → i < b → Small b (test t n i)
+small_test : (b : ℕ) (t : Bool) (n : Kind) (i : ℕ) → n < 256 → i < b → Small b (test t n i)
 unfolding test
 small_test b true n i h k = small _ _ h k
 small_test b false n i h k = small _ _ (omega arith) (omega arith)
@@ -219,7 +220,7 @@ unfolding refusal
 refusal_small s c = small_first _ _ 1 _ (omega arith) (omega arith) (λ fits. rest_small s c (shape_ok s c fits).range.ids_to)
 
 -- a refusal's number and index are both in its status
-pub status_says : (s : Store) (c : Call) (n i : ℕ) → refusal s c ≡ refuse n i → (n < 256) × (status_of (outcome_of (answer s c)) ≡ n + 256 * i)
+pub status_says : (s : Store) (c : Call) (n : Kind) (i : ℕ) → refusal s c ≡ refuse n i → (n < 256) × (status_of (outcome_of (answer s c)) ≡ n + 256 * i)
 unfolding answer
 status_says s c n i e =
     let k : Small 65537 (refuse n i) = rw e at (refusal_small s c) in

@@ -6,6 +6,7 @@ use native.Mathlib.Omega.{arith}
 use lib.ListN.{length, set, drop}
 use lib.Seq.{sets, sets-eq, drop-length}
 use borrow.Author.Tests.{eq-eqb, ne_eqb}
+use Rattle.refusal.specs.declared.Kind.{Kind}
 use Rattle.refusal.specs.Outcomes.{Values, refused, finished_outcome}
 use Rattle.model.specs.Store.{Offer, offer, Answer}
 use Rattle.model.specs.Batches.{taken_by, updates_in}
@@ -27,7 +28,7 @@ use Rattle.std.specs.Prelude.{Result, Ok, Err, ⊤}
 use Rattle.refusal.specs.declared.Refusal.{Refusal}
 
 -- an index below 2^56 comes back from a status
-pub status_exact : (number index : ℕ) → number < 256 → index < 2 ^ 56 → status_of (refused number index) ≡ number + 256 * index
+pub status_exact : (number : Kind) (index : ℕ) → number < 256 → index < 2 ^ 56 → status_of (refused number index) ≡ number + 256 * index
 status_exact number index h i = omega arith
 
 module _ (n : ℕ) (lent : List ℕ) where

@@ -17,7 +17,7 @@ use Rattle.sizes.proofs.Laws.{longest_object_frame}
 use Rattle.frame.specs.Frame.{Writing, writing, framed, verdict_of, object_part}
 use Rattle.frame.specs.Accepted.{IsWritten, AcceptedNamed, AcceptedSome, AcceptedBack}
 use Rattle.frame.proofs.Laws.{Accepted, length_framed, length_object, verdict_accepted, verdict_framed, object_part_framed, framed_accepted}
-use Rattle.std.specs.Prelude.{Ok, Err}
+use Rattle.std.specs.Prelude.{Result, Ok, Err, ⊤}
 
 -- a write that is done: the slot has one of the 78 sizes, the object fits it, and the slot is framed
 record Done (before object slot : List ℕ) : Type 0 where
@@ -25,17 +25,17 @@ record Done (before object slot : List ℕ) : Type 0 where
   pub fits : length object ≤ longest_object (length before)
   pub is : slot ≡ framed (length before) object
 
-refused : {A : Type 0} {r : Refusal} → Err r ≡ (Ok tt) → A
+refused : {A : Type 0} {r : Refusal} → ◌≡◌ {A = Result ⊤ Refusal} (Err r) (Ok tt) → A
 refused e = let y : ◌≡◌ {A = ℕ} 0 1 = cc in absurd (omega arith)
 
-done : (before object slot : List ℕ) → writing before object ≡ record { answer = (Ok tt); slot = slot } → Done before object slot
+done : (before object slot : List ℕ) → writing before object ≡ record { answer = Ok tt; slot = slot } → Done before object slot
 unfolding writing
 done before object slot = by (is_slab_size (length before)) (ltb (longest_object (length before)) (length object)) refl refl
   where
     by : (k l : Bool) → is_slab_size (length before) ≡ k → ltb (longest_object (length before)) (length object) ≡ l
         → ◌≡◌ {A = Writing} (cond (not k) (record { answer = Err (refusal wrong_shape 0); slot = before })
-        (cond l (record { answer = Err (refusal too_long 0); slot = before }) (record { answer = (Ok tt); slot = framed (length before) object })))
-        (record { answer = (Ok tt); slot = slot })
+        (cond l (record { answer = Err (refusal too_long 0); slot = before }) (record { answer = Ok tt; slot = framed (length before) object })))
+        (record { answer = Ok tt; slot = slot })
         → Done before object slot
     by false l p q e = refused (ap (λ (w : Writing). w.answer) e)
     by true true p q e = refused (ap (λ (w : Writing). w.answer) e)
@@ -59,7 +59,7 @@ unfolding writing
 written_accepted slot n b a = (
   slot,
   rw (a.slab, length_object slot n a, le-ltb (longest_object (length slot)) n a.fits)
-      (ap (λ (x : List ℕ). record { answer = (Ok tt); slot = x }) (sym (framed_accepted slot n a b))),
+      (ap (λ (x : List ℕ). record { answer = Ok tt; slot = x }) (sym (framed_accepted slot n a b))),
 )
 
 pub accepted_named : AcceptedNamed

@@ -5,6 +5,7 @@ use mathlib.Core.List.{List, [], ◌∷◌, ◌++◌}
 use Prim.Native.Nat.{ℕ, ◌+◌, ◌*◌, ◌≤◌, ◌<◌}
 use native.Mathlib.Omega.{arith}
 use lib.ListN.{length}
+use Rattle.refusal.specs.declared.Kind.{Kind}
 use Rattle.list_parts.specs.Parts.{part}
 use Rattle.list_parts.specs.Lists.{elem}
 use Rattle.list_parts.proofs.Lists.{elem_head, elem_tail}
@@ -46,8 +47,8 @@ module _ (n : ℕ) (c : List ℕ) (size : length c ≡ n * width) (v : Normal c)
     pub brought_wide : length (brought_at c is) ≡ length is * width
     brought_wide = length_brought_of (part width c) is (wholes is below)
 
-    pub brought_short : (number : ℕ) → tests_from number 0 (long_in (all_stored is) (brought_at c is)) ≡ ok
-    brought_short number = ap (tests_from number 0) (long_in_brought_of (part width c) is (wholes is below)) ∙ tests_from_none number 0 is
+    pub brought_short : (kind : Kind) → tests_from kind 0 (long_in (all_stored is) (brought_at c is)) ≡ ok
+    brought_short kind = ap (tests_from kind 0) (long_in_brought_of (part width c) is (wholes is below)) ∙ tests_from_none kind 0 is
 
     pub brought_kept : normal_rows (all_stored is) (brought_at c is) ≡ rows_at width c is
     brought_kept = normal_rows_brought_of (part width c) is (wholes is below) ∙ kept_rows is below

@@ -4,7 +4,7 @@ use Rattle.std.specs.Prelude.{◌≡◌, ◌≢◌, ◌⊎◌, ◌↔◌, Bool, 
 use mathlib.Core.List.{List, [], ◌∷◌, Memᴰ, map}
 use Rattle.std.specs.Float.Ieee as Ieee
 use Rattle.refusal.specs.Outcomes.{granted, refused}
-use Rattle.refusal.specs.Refusals.{no_such_id, none_free, nothing_to_cut, key_too_long}
+use Rattle.refusal.specs.Refusals.{number_of, no_such_id, none_free, nothing_to_cut, key_too_long}
 use Rattle.list_parts.specs.Lists.{elem}
 use Rattle.list_parts.specs.Parts.{part}
 use Rattle.carried.specs.Carried.{width, rows_at}
@@ -129,7 +129,7 @@ pub data Seen : Type 0 where
 -- of an excepted answer a refusal is still seen, but not whether the test of a cut report says keep
 abbrev pub veil : Answer → Seen
 veil (granted g) = excepted
-veil (refused n i) = cond (eqb n nothing_to_cut) excepted (shown (refused n i))
+veil (refused n i) = cond (eqb (number_of n) (number_of nothing_to_cut)) excepted (shown (refused n i))
 
 abbrev pub seen : Call → Answer → Seen
 seen c a = cond (remembers c) (veil a) (shown a)
@@ -244,7 +244,7 @@ MovesFit = (s : Store) (r : Float) → capacities s.ids s.slots ≡ true → len
 -- a lookup's answer as a row: 0, its value and its list; or its number, and zeros
 abbrev pub row_of : Answer → Told
 row_of (granted g) = record { number = 0; location = get_or (values_of g) 0 0; carried = nth 0 (lists_of g) }
-row_of (refused n i) = record { number = n; location = 0; carried = replicate width 0 }
+row_of (refused n i) = record { number = number_of n; location = 0; carried = replicate width 0 }
 
 -- a row for each id, in the order asked: that of the lookup of this id alone, so that no row depends on another, and a repeated id has its row again
 abbrev pub PageRows : Type 0

@@ -9,6 +9,7 @@ use lib.Dec.{eqb, ltb}
 use lib.ListN.{length, get_or, drop}
 use lib.Seq.{drop-length}
 use borrow.Author.Tests.{not-false, eqb-true, ltb-true, ne_eqb}
+use Rattle.refusal.specs.declared.Kind.{Kind}
 use Rattle.refusal.specs.Outcomes.{granted, refused}
 use Rattle.refusal.specs.Refusals.{refusal, wrong_shape, no_such_id, tables_disagree}
 use Rattle.refusal.specs.declared.Refusal.{Refusal}
@@ -151,11 +152,11 @@ module _ (m : Memory) (i : ℕ) (row : List ℕ) where
   abbrev pub Answers : Result ℕ Refusal → List ℕ → Type 0
   Answers r shown = (looked_answer r shown ≡ answer (read m) asked) × (shown ≡ list_in 0 (answer (read m) asked) row)
 
-  refused_answer : (n k : ℕ) → S.refusal (read m) asked ≡ refuse n k → answer (read m) asked ≡ refused n k
+  refused_answer : (n : Kind) (k : ℕ) → S.refusal (read m) asked ≡ refuse n k → answer (read m) asked ≡ refused n k
   unfolding answer
   refused_answer n k e = ap (λ v. answer_by v (grant (read m) asked)) e
 
-  refused_leaves : (n k : ℕ) → S.refusal (read m) asked ≡ refuse n k → Answers (Err (refusal n k)) row
+  refused_leaves : (n : Kind) (k : ℕ) → S.refusal (read m) asked ≡ refuse n k → Answers (Err (refusal n k)) row
   refused_leaves n k e =
       let a = refused_answer n k e in
       (sym a, sym (ap (λ (x : Answer). list_in 0 x row) a))

@@ -3,6 +3,7 @@
 use mathlib.Core.Path.{◌≡◌, refl, sym, ap, ◌∙◌}
 use Prim.Native.Nat.{ℕ}
 use mathlib.Core.Bool.{Bool, true, false}
+use Rattle.refusal.specs.declared.Kind.{Kind}
 use Rattle.refusal.specs.Outcomes.{granted, refused}
 use Rattle.refusal.proofs.Tests.{clash}
 use Rattle.model.specs.Memory.{Memory, read}
@@ -17,7 +18,7 @@ pub next_granted : (s : Store) (c : Call) → refusal s c ≡ ok → next s c �
 unfolding next
 next_granted s c e = ap (λ w. unless w s (effect s c)) e
 
-pub next_refused : (s : Store) (c : Call) (n i : ℕ) → refusal s c ≡ refuse n i → next s c ≡ s
+pub next_refused : (s : Store) (c : Call) (n : Kind) (i : ℕ) → refusal s c ≡ refuse n i → next s c ≡ s
 unfolding next
 next_refused s c n i e = ap (λ w. unless w s (effect s c)) e
 

@@ -7,6 +7,8 @@ use Prim.Native.Nat.{ℕ}
 use lib.Dec.{eqb}
 use lib.ListN.{get_or, drop}
 use borrow.Author.Tests.{eqb-true}
+use Rattle.refusal.specs.Refusals.{number_of}
+use Rattle.refusal.proofs.Outcomes.{kind_of, kind_of_number, number_one}
 use Rattle.refusal.specs.Outcomes.{Values, granted, refused}
 use Rattle.refusal.proofs.Outcomes.{one_by}
 use Rattle.refusal.proofs.Tests.{clash, and_true}
@@ -39,15 +41,15 @@ abbrev pub same_values : Values → Values → Bool
 same_values (granted xs) (granted ys) = same_list xs ys
 same_values (granted xs) (refused n i) = false
 same_values (refused n i) (granted ys) = false
-same_values (refused n i) (refused k j) = eqb n k && eqb i j
+same_values (refused n i) (refused k j) = eqb (number_of n) (number_of k) && eqb i j
 
 pub same_values_eq : (a b : Values) → same_values a b ≡ true → a ≡ b
 same_values_eq (granted xs) (granted ys) e = ap granted (same_list_eq xs ys e)
 same_values_eq (granted xs) (refused n i) e = clash (sym e)
 same_values_eq (refused n i) (granted ys) e = clash (sym e)
 same_values_eq (refused n i) (refused k j) e =
-    let both = and_true (eqb n k) (eqb i j) e in
-    λ t. refused (eqb-true n k both.0 t) (eqb-true i j both.1 t)
+    let both = and_true (eqb (number_of n) (number_of k)) (eqb i j) e in
+    λ t. refused (number_one n k (eqb-true (number_of n) (number_of k) both.0) t) (eqb-true i j both.1 t)
 
 -- ---- codes: a number that says which of its type an answer is, and the answer's numbers; then its lists
 
@@ -113,7 +115,7 @@ reason_back (before_line w line) = refl
 reason_back (listed w line) = refl
 
 abbrev pub answer_code : Answer → Code
-answer_code (refused n i) = (0 ∷ n ∷ i ∷ []) ∷ []
+answer_code (refused k i) = (0 ∷ number_of k ∷ i ∷ []) ∷ []
 answer_code (granted done) = (1 ∷ []) ∷ []
 answer_code (granted (gave n)) = (2 ∷ n ∷ []) ∷ []
 answer_code (granted (found l c)) = (3 ∷ l ∷ []) ∷ c ∷ []
@@ -127,7 +129,7 @@ answer_code (granted (truncated c)) = (10 ∷ []) ∷ cut_code c
 
 abbrev answer_in : Code → Answer
 answer_in c =
-    get_or (refused (at c 1) (at c 2) ∷
+    get_or (refused (kind_of (at c 1)) (at c 2) ∷
     granted done ∷
     granted (gave (at c 1)) ∷
     granted (found (at c 1) (get_or c 1 [])) ∷
@@ -140,7 +142,7 @@ answer_in c =
     granted (because (reason_in (get_or c 1 []))) ∷ []) (at c 0) (granted (truncated (cut_in (drop 1 c))))
 
 answer_back : (a : Answer) → answer_in (answer_code a) ≡ a
-answer_back (refused n i) = refl
+answer_back (refused k i) = ap (λ x. refused x i) (kind_of_number k)
 answer_back (granted done) = refl
 answer_back (granted (gave n)) = refl
 answer_back (granted (found l c)) = refl

@@ -19,6 +19,7 @@ use Rattle.model.specs.Columns.{before_keys}
 use Rattle.model.specs.Rebuild.{rows_in, rows_of, rows}
 use Rattle.model.specs.Store.{Store, Update, Row}
 use Rattle.model.specs.Tables.{in_ids, held_id, bad_location}
+use Rattle.refusal.specs.declared.Kind.{Kind}
 use Rattle.model.specs.Verdict.{Verdict, ok, refuse, test, tests_from, earlier, ◌⨾◌}
 use Rattle.model.proofs.Batches.{length_updates_of}
 use Rattle.model.specs.Keyed.{updates_keyed, rows_keyed, OfferedInOrder, RebuiltInOrder}
@@ -28,7 +29,7 @@ abbrev From : ℕ → Verdict → Type 0
 From i ok = Unit {0}
 From i (refuse n j) = i ≤ j
 
-from_test : (b : Bool) (n i : ℕ) (v : Verdict) → From i v → From i (test b n i ⨾ v)
+from_test : (b : Bool) (n : Kind) (i : ℕ) (v : Verdict) → From i v → From i (test b n i ⨾ v)
 unfolding test ◌⨾◌
 from_test true n i v h = omega arith
 from_test false n i v h = h
@@ -38,8 +39,8 @@ from_later i ok h = tt
 from_later i (refuse n j) h = omega arith
 
 -- ---- one row: a test of the former order that is met decides where its number comes first or the row's other test is not met
-module _ (first : ℕ → Bool) (i : ℕ) where
-  here : (n : ℕ) (w : Verdict) → first n ≡ true → From i w → earlier first (refuse n i) w ≡ refuse n i
+module _ (first : Kind → Bool) (i : ℕ) where
+  here : (n : Kind) (w : Verdict) → first n ≡ true → From i w → earlier first (refuse n i) w ≡ refuse n i
   unfolding earlier
   here n ok f h = refl
   here n (refuse m j) f h = by (ltb i j) (eqb i j) refl refl
@@ -49,17 +50,17 @@ module _ (first : ℕ → Bool) (i : ℕ) where
       by false true p q = rw f
       by false false p q = absurd (eqb-false i j q (let z = ltb-false i j p in omega arith))
 
-  before : (n : ℕ) (w : Verdict) → From (suc i) w → earlier first (refuse n i) w ≡ refuse n i
+  before : (n : Kind) (w : Verdict) → From (suc i) w → earlier first (refuse n i) w ≡ refuse n i
   unfolding earlier
   before n ok h = refl
   before n (refuse m j) h = rw (lt-ltb i j (omega arith))
 
-  other : (m : ℕ) (v : Verdict) → From (suc i) v → earlier first v (refuse m i) ≡ refuse m i
+  other : (m : Kind) (v : Verdict) → From (suc i) v → earlier first v (refuse m i) ≡ refuse m i
   unfolding earlier
   other m ok h = refl
   other m (refuse n j) h = rw (le-ltb j i (omega arith), ne_eqb j i (λ e. omega arith))
 
-  after : (n m : ℕ) → first n ≡ false → earlier first (refuse n i) (refuse m i) ≡ refuse m i
+  after : (n m : Kind) → first n ≡ false → earlier first (refuse n i) (refuse m i) ≡ refuse m i
   unfolding earlier
   after n m f = rw (le-ltb i i (omega arith), eq-eqb i i refl, f)
 
@@ -78,7 +79,7 @@ one_offered false false false true d i v w p q = before before_keys i too_large 
 one_offered false false false false true i v w p q = before before_keys i tables_disagree w q
 one_offered false false false false false i v w p q = refl
 
-from_tests_from : (n i : ℕ) (bs : List Bool) → From i (tests_from n i bs)
+from_tests_from : (n : Kind) (i : ℕ) (bs : List Bool) → From i (tests_from n i bs)
 unfolding tests_from
 from_tests_from n i [] = tt
 from_tests_from n i (b ∷ bs) = from_test b n i (tests_from n (suc i) bs) (from_later i (tests_from n (suc i) bs) (from_tests_from n (suc i) bs))
@@ -159,7 +160,7 @@ ltb_suc : (a b : ℕ) → ltb a b ≡ ltb (suc a) (suc b)
 ltb_suc a b = both_ways (ltb a b) (ltb (suc a) (suc b))
     (λ p. lt-ltb (suc a) (suc b) (omega (arith, ltb-true a b p))) (λ p. lt-ltb a b (omega (arith, ltb-true (suc a) (suc b) p)))
 
-first_met_lem : (n i : ℕ) (bs : List Bool) → tests_from n i bs ≡ test (ltb (first_met bs) (length bs)) n (i + first_met bs)
+first_met_lem : (n : Kind) (i : ℕ) (bs : List Bool) → tests_from n i bs ≡ test (ltb (first_met bs) (length bs)) n (i + first_met bs)
 unfolding tests_from first_met test ◌⨾◌
 first_met_lem n i [] = refl
 first_met_lem n i (true ∷ bs) = rw (lt-ltb 0 (suc (length bs)) (omega arith)) (let e : i ≡ i + 0 = omega arith in ap (refuse n) e)

@@ -1,5 +1,5 @@
 -- Requests 2026-01 and 2026-06: the column of what rows carry, call by call, and the test of their keys. Assumes nothing.
-use Rattle.std.specs.Prelude.{Bool, true, ◌||◌, List, ℕ, ◌*◌, eqb, length, replicate}
+use Rattle.std.specs.Prelude.{Bool, true, false, List, ℕ, ◌*◌, eqb, length, replicate}
 use Rattle.refusal.specs.declared.Kind.{Kind}
 use Rattle.refusal.specs.declared.Kind.TheVariants as K
 use Rattle.refusal.specs.Refusals.{no_such_id, repeated_id, key_too_long}

@@ -10,7 +10,8 @@ use lib.Dec.{eqb, ltb}
 use lib.ListN.{length, get_or, take, drop, set}
 use lib.Seq.{sets, drop-length}
 use borrow.Author.Tests.{eqb-true, eq-eqb, ne_eqb, not-true, not-false, lt-ltb, le-ltb}
-use Rattle.refusal.specs.Refusals.{wrong_shape, no_such_id, repeated_id, batch_open, too_many, key_too_long}
+use Rattle.refusal.specs.declared.Kind.{Kind}
+use Rattle.refusal.specs.Refusals.{refusal as refusal_at, wrong_shape, batch_open, too_many, key_too_long}
 use Rattle.refusal.specs.declared.Refusal.{Refusal}
 use Rattle.refusal.proofs.Tests.{and_true}
 use Rattle.carried.specs.Carried.{width, put_rows, up_from}
@@ -49,14 +50,14 @@ use Rattle.std.specs.Prelude.{Result, Ok, Err, ⊤}
 -- ---- one test after another
 pub seq_stop : (o : Result ⊤ Refusal) (v w : Verdict) (r : Refusal) → judged_verdict o ≡ v → o ≡ Err r → judged_verdict o ≡ (v ⨾ w)
 unfolding ◌⨾◌
-seq_stop o v w r e p = let q : refuse r.number r.index ≡ v = sym (ap judged_verdict p) ∙ e in ap judged_verdict p ∙ ap (λ x. x ⨾ w) q
+seq_stop o v w r e p = let q : refuse r.kind r.index ≡ v = sym (ap judged_verdict p) ∙ e in ap judged_verdict p ∙ ap (λ x. x ⨾ w) q
 
 pub seq_on : (o : Result ⊤ Refusal) (v w : Verdict) → judged_verdict o ≡ v → o ≡ (Ok tt) → w ≡ (v ⨾ w)
 unfolding ◌⨾◌
 seq_on o v w e p = let q : ok ≡ v = sym (ap judged_verdict p) ∙ e in ap (λ x. x ⨾ w) q
 
 -- ---- two orders of tests made one: whether a refusal n of update i comes before that of the key of update k
-module _ (n i k : ℕ) where
+module _ (n : Kind) (i k : ℕ) where
   abbrev Decides : Bool
   Decides = ltb i k || (eqb i k && before_keys n)
 
@@ -67,11 +68,8 @@ module _ (n i k : ℕ) where
       by true = refl
       by false = refl
 
-  pub decides_held : i ≡ k → n ≡ no_such_id → true ≡ Decides
-  decides_held e p = rw (le-ltb i k (omega arith), eq-eqb i k e, eq-eqb n no_such_id p)
-
-  pub decides_seen : i ≡ k → (n ≡ no_such_id → ⊥) → eqb n repeated_id ≡ Decides
-  decides_seen e p = rw (le-ltb i k (omega arith), eq-eqb i k e, ne_eqb n no_such_id p)
+  pub decides_here : i ≡ k → before_keys n ≡ Decides
+  decides_here e = rw (le-ltb i k (omega arith), eq-eqb i k e) refl
 
 module _ (j : Result ⊤ Refusal) (k n : ℕ) where
   abbrev Keyed : Verdict
@@ -86,16 +84,16 @@ module _ (j : Result ⊤ Refusal) (k n : ℕ) where
     unfolding earlier test
     keys_alone p = rw (p, lt-ltb k n h)
 
-    module _ (r : Refusal) (b : Bool) (p : j ≡ Err r) (e : b ≡ Decides r.number r.index k) where
-      both_refuse : Keyed ≡ cond b (refuse r.number r.index) (refuse key_too_long k)
+    module _ (r : Refusal) (b : Bool) (p : j ≡ Err r) (e : b ≡ Decides r.kind r.index k) where
+      both_refuse : Keyed ≡ cond b (refuse r.kind r.index) (refuse key_too_long k)
       unfolding earlier test
       both_refuse = rw (p, lt-ltb k n h, e)
 
-      pub keys_after : b ≡ true → refuse r.number r.index ≡ Keyed
-      keys_after t = sym (both_refuse ∙ ap (λ x. cond x (refuse r.number r.index) (refuse key_too_long k)) t)
+      pub keys_after : b ≡ true → refuse r.kind r.index ≡ Keyed
+      keys_after t = sym (both_refuse ∙ ap (λ x. cond x (refuse r.kind r.index) (refuse key_too_long k)) t)
 
       pub keys_before : b ≡ false → refuse key_too_long k ≡ Keyed
-      keys_before t = sym (both_refuse ∙ ap (λ x. cond x (refuse r.number r.index) (refuse key_too_long k)) t)
+      keys_before t = sym (both_refuse ∙ ap (λ x. cond x (refuse r.kind r.index) (refuse key_too_long k)) t)
 
 -- there are as many updates as bytes
 module _ (bs rows : List ℕ) where
@@ -111,19 +109,19 @@ module _ (bs rows : List ℕ) where
 
 -- ---- what an offer leaves
 module _ (m : Memory) (o : Offer) where
-  pub leaves_refused : (n i : ℕ) → refusal (read m) (offer o) ≡ refuse n i
+  pub leaves_refused : (n : Kind) (i : ℕ) → refusal (read m) (offer o) ≡ refuse n i
       → record { answer = refused n i; slot_marks = m.slot_marks; batch = m.batch; tallies = m.tallies; carried = m.carried; placed = o.placed } ≡ offer_leaves m o
   unfolding offer_leaves answer memory_after
   leaves_refused n i e = rw e
 
-  pub leaves_as : (r : Refusal) (n : ℕ) → r ≡ record { number = n; index = 0 } → refusal (read m) (offer o) ≡ refuse n 0
-      → record { answer = refused r.number r.index; slot_marks = m.slot_marks; batch = m.batch; tallies = m.tallies; carried = m.carried; placed = o.placed } ≡ offer_leaves m o
+  pub leaves_as : (r : Refusal) (n : Kind) → r ≡ refusal_at n 0 → refusal (read m) (offer o) ≡ refuse n 0
+      → record { answer = refused r.kind r.index; slot_marks = m.slot_marks; batch = m.batch; tallies = m.tallies; carried = m.carried; placed = o.placed } ≡ offer_leaves m o
   leaves_as r n p e =
-      (λ i. record { answer = refused (p i).number (p i).index; slot_marks = m.slot_marks; batch = m.batch; tallies = m.tallies; carried = m.carried; placed = o.placed }) ∙ leaves_refused n 0 e
+      (λ i. record { answer = refused (p i).kind (p i).index; slot_marks = m.slot_marks; batch = m.batch; tallies = m.tallies; carried = m.carried; placed = o.placed }) ∙ leaves_refused n 0 e
 
   pub leaves_verdict : (j : Result ⊤ Refusal) (r : Refusal) → j ≡ Err r → refusal (read m) (offer o) ≡ judged_verdict j
-      → record { answer = refused r.number r.index; slot_marks = m.slot_marks; batch = m.batch; tallies = m.tallies; carried = m.carried; placed = o.placed } ≡ offer_leaves m o
-  leaves_verdict j r p e = leaves_refused r.number r.index (e ∙ ap judged_verdict p)
+      → record { answer = refused r.kind r.index; slot_marks = m.slot_marks; batch = m.batch; tallies = m.tallies; carried = m.carried; placed = o.placed } ≡ offer_leaves m o
+  leaves_verdict j r p e = leaves_refused r.kind r.index (e ∙ ap judged_verdict p)
 
   abbrev NewLocations : List ℕ
   NewLocations = taken_by (read m) (updates_in o)

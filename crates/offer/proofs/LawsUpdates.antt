@@ -22,7 +22,7 @@ use Rattle.model.specs.Tables.{most_updates, held_id, bad_location}
 use Rattle.model.specs.Verdict.{Verdict, test, ◌⨾◌}
 use Rattle.tables.specs.Entries.{held_in, bad_in}
 use Rattle.tables.proofs.LawsEntries.{held_in_read, bad_in_read}
-use Rattle.offer_updates.specs.Kinds.{no_class_kind, free_kind, no_kinds, kind_of, kinds_of, number_by, row_number, say_at, check_in}
+use Rattle.offer_updates.specs.Kinds.{no_class_kind, free_kind, no_kinds, kind_of, kinds_of, wrong_by, row_wrong, say_at, check_in}
 use Rattle.offer_updates.proofs.Laws.{slab_for_le}
 
 -- ---- the slab of each update
@@ -43,14 +43,14 @@ abbrev pub unkept : Memory → Memory
 unkept m = lent_by place_tables m.ids m.slots m.id_marks m.locations m.slot_marks m.owners m.tallies
 
 pub check_lent : (m : Memory) (seen : List ℕ) (i : ℕ) (is ks : List ℕ) → check_in (unkept m) seen i is ks ≡ check_in m seen i is ks
-unfolding check_in row_number
+unfolding check_in row_wrong
 check_lent m seen i [] ks = refl
 check_lent m seen i (x ∷ is) [] = refl
-check_lent m seen i (x ∷ is) (k ∷ ks) = ap (say_at (row_number m seen x k) i) (check_lent m (x ∷ seen) (suc i) is ks)
+check_lent m seen i (x ∷ is) (k ∷ ks) = ap (say_at (row_wrong m seen x k) i) (check_lent m (x ∷ seen) (suc i) is ks)
 
 say_tests : (h r n b : Bool) (i : ℕ) (v : Verdict)
-    → say_at (number_by h r n b) i v ≡ (test (not h) no_such_id i ⨾ test r repeated_id i ⨾ test n too_large i ⨾ test b tables_disagree i ⨾ v)
-unfolding number_by test ◌⨾◌
+    → say_at (wrong_by h r n b) i v ≡ (test (not h) no_such_id i ⨾ test r repeated_id i ⨾ test n too_large i ⨾ test b tables_disagree i ⨾ v)
+unfolding wrong_by test ◌⨾◌
 say_tests false r n b i v = refl
 say_tests true true n b i v = refl
 say_tests true false true b i v = refl
@@ -69,7 +69,7 @@ id_of_update false x n = refl
 
 pub check_read : (m : Memory) → bad_slots m.slots ≡ false → length m.slot_marks ≡ slabs * m.slots → (seen : List ℕ) (i : ℕ) (is : List ℕ) (ss : List Bool) (ns : List ℕ)
     → check_in m seen i is (kinds_of ss ns) ≡ updates (read m) seen i (updates_of is ss ns)
-unfolding check_in row_number read
+unfolding check_in row_wrong read
 check_read m good long seen i [] ss ns = refl
 check_read m good long seen i (x ∷ is) [] ns = refl
 check_read m good long seen i (x ∷ is) (b ∷ ss) [] = refl

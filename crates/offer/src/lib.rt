@@ -58,17 +58,21 @@ fn fits(
     )
 }
 
+// Whether such a refusal of an update comes before that of its key.
+fn before_keys(kind: Kind) -> bool
+    ensures { result ≡ before_keys kind }
+{
+    matches!(kind, Kind::NoSuchId | Kind::RepeatedId)
+}
+
 // Whether a refusal comes before that of a key which is too long, at this update.
 fn decides(refusal: Refusal, long: usize) -> bool
-    ensures { result ≡ (ltb refusal.index long || (eqb refusal.index long && before_keys refusal.number)) }
+    ensures { result ≡ (ltb refusal.index long || (eqb refusal.index long && before_keys refusal.kind)) }
 {
     if refusal.index != long {
         return refusal.index < long;
     }
-    if refusal.number == Kind::NoSuchId {
-        return true;
-    }
-    refusal.number == Kind::RepeatedId
+    before_keys(refusal.kind)
 }
 
 // What the other tests of the updates say, and that of the keys, of which `long` is the first that is too long.
@@ -116,10 +120,7 @@ fn refused(
         caps, id_marks, locations, slot_marks, owners, tallies, ids, slabs,
     );
     let long = keys::first_long(stores, update_carried);
-    let judged = with_keys(checked, long, stores.len());
-    let Ok(()) = judged else {
-        return judged;
-    };
+    with_keys(checked, long, stores.len())?;
     let asked = offer_room::tally(slabs);
     offer_room::room(slots, slot_marks, tallies, &asked)
 }
@@ -192,7 +193,7 @@ pub fn offer(
     }
     let all = offer_updates::kinds(stores, lengths);
     let slabs = &all[..n];
-    let judged = refused(
+    refused(
         caps,
         id_marks,
         locations,
@@ -203,10 +204,7 @@ pub fn offer(
         stores,
         update_carried,
         slabs,
-    );
-    if let Err(refusal) = judged {
-        return Err(refusal);
-    }
+    )?;
     offer_places::place(slots, slot_marks, tallies, slabs, placed);
     offer_places::keep(batch, ids, placed, n as u64 + 1);
     keys::keep(carried, caps.ids, stores, update_carried);

@@ -11,8 +11,9 @@ use lib.Dec.{leb, ltb, eqb}
 use lib.ListN.{length, get_or, drop, set, drop_of_length-le}
 use lib.Seq.{sets, drop-cons, set_out, get_or-set_same, get_or-set_other}
 use borrow.Author.Tests.{eq-eqb, ne_eqb, ltb-false}
+use Rattle.refusal.specs.declared.Kind.{Kind}
 use Rattle.refusal.specs.declared.Refusal.{Refusal}
-use Rattle.refusal.specs.Refusals.{too_large}
+use Rattle.refusal.specs.Refusals.{refusal, no_such_id, repeated_id, too_large, tables_disagree}
 use Rattle.refusal.proofs.Tests.{clash, by_test}
 use Rattle.list_parts.specs.Lists.{elem}
 use Rattle.list_parts.proofs.Lists.{elem_cases}
@@ -22,8 +23,8 @@ use Rattle.model.specs.Tables.{most_updates}
 use Rattle.model.specs.Memory.{Memory}
 use Rattle.model.specs.Verdict.{Verdict, ok, refuse}
 use Rattle.tables.specs.Entries.{held_in, bad_in}
-use Rattle.offer_updates.specs.Kinds.{no_class_kind, free_kind, kind_of, kinds_of, before, number_by, row_number, say_at, check_in}
-use Rattle.std.specs.Prelude.{Ok, Err}
+use Rattle.offer_updates.specs.Kinds.{no_class_kind, free_kind, kind_of, kinds_of, before, wrong_by, row_wrong, say_at, check_in}
+use Rattle.std.specs.Prelude.{Ok, Err, Option, Some, None}
 
 -- ---- the slab of an update
 first_fit_le : (n : ℕ) (ss : List ℕ) → first_fit n ss ≤ length ss
@@ -49,7 +50,7 @@ kind_of_slab false n k h e = clash h
 kind_of_slab true n k h e =
     by_test (ltb (slab_for n) slabs)
     (λ t. let s : Ok (slab_for n) ≡ Ok k = rw t at e in cc)
-    (λ t. let s : Err (record { number = too_large; index = 0 }) ≡ Ok k = rw t at e in let z : ◌≡◌ {A = ℕ} 0 1 = cc in absurd (omega arith))
+    (λ t. let s : Err (refusal too_large 0) ≡ Ok k = rw t at e in let z : ◌≡◌ {A = ℕ} 0 1 = cc in absurd (omega arith))
 
 pub kind_of_none : (b : Bool) (n : ℕ) (r : Refusal) → not b ≡ false → class_of n ≡ Err r → no_class_kind ≡ kind_of b n
 unfolding class_of
@@ -93,48 +94,41 @@ before_not x is (suc j) h n =
     rw (p, ne_eqb x (get_or is j 0) (λ e. n (ap (λ y. get_or is y 0) p ∙ sym e)))
 
 -- ---- the tests
-pub say_at_none : (n i : ℕ) (v : Verdict) → n ≡ 0 → say_at n i v ≡ v
-say_at_none n i v e = rw e
-
-pub say_at_some : (n i : ℕ) (v : Verdict) → (n ≡ 0 → ⊥) → say_at n i v ≡ refuse n i
-say_at_some zero i v h = absurd (h refl)
-say_at_some (suc n) i v h = refl
-
 pub check_in_turn : (m : Memory) (is ks : List ℕ) (i : ℕ) → i < length is → i < length ks
-    → check_in m (before i is) i (drop i is) (drop i ks) ≡ say_at (row_number m (before i is) (get_or is i 0) (get_or ks i 0)) i (check_in m (before (i + 1) is) (i + 1) (drop (i + 1) is) (drop (i + 1) ks))
+    → check_in m (before i is) i (drop i is) (drop i ks) ≡ say_at (row_wrong m (before i is) (get_or is i 0) (get_or ks i 0)) i (check_in m (before (i + 1) is) (i + 1) (drop (i + 1) is) (drop (i + 1) ks))
 unfolding check_in
 check_in_turn m is ks i h g = rw (drop-cons is i 0 h, drop-cons ks i 0 g, add-one i)
 
 -- the number of an update, test by test
-pub row_not_held : (h r n b : Bool) → h ≡ false → 8 ≡ number_by h r n b
-unfolding number_by
+pub row_not_held : (h r n b : Bool) → h ≡ false → Some no_such_id ≡ wrong_by h r n b
+unfolding wrong_by
 row_not_held h r n b e = rw e
 
-pub row_repeated : (h r n b : Bool) → h ≡ true → r ≡ true → 9 ≡ number_by h r n b
-unfolding number_by
+pub row_repeated : (h r n b : Bool) → h ≡ true → r ≡ true → Some repeated_id ≡ wrong_by h r n b
+unfolding wrong_by
 row_repeated h r n b e f = rw (e, f)
 
 module _ (h r : Bool) (k : ℕ) (b : Bool) where
-  pub row_large : h ≡ true → r ≡ false → k ≡ no_class_kind → 2 ≡ number_by h r (eqb k no_class_kind) b
-  unfolding number_by
+  pub row_large : h ≡ true → r ≡ false → k ≡ no_class_kind → Some too_large ≡ wrong_by h r (eqb k no_class_kind) b
+  unfolding wrong_by
   row_large e f n = rw (e, f, eq-eqb k no_class_kind n)
 
-  pub row_bad : h ≡ true → r ≡ false → (k ≡ no_class_kind → ⊥) → b ≡ true → 13 ≡ number_by h r (eqb k no_class_kind) b
-  unfolding number_by
+  pub row_bad : h ≡ true → r ≡ false → (k ≡ no_class_kind → ⊥) → b ≡ true → Some tables_disagree ≡ wrong_by h r (eqb k no_class_kind) b
+  unfolding wrong_by
   row_bad e f n t = rw (e, f, ne_eqb k no_class_kind n, t)
 
-  pub row_fine : h ≡ true → r ≡ false → (k ≡ no_class_kind → ⊥) → b ≡ false → 0 ≡ number_by h r (eqb k no_class_kind) b
-  unfolding number_by
+  pub row_fine : h ≡ true → r ≡ false → (k ≡ no_class_kind → ⊥) → b ≡ false → None ≡ wrong_by h r (eqb k no_class_kind) b
+  unfolding wrong_by
   row_fine e f n t = rw (e, f, ne_eqb k no_class_kind n, t)
 
 -- told by the location that the table has
-pub row_told : (m : Memory) (seen : List ℕ) (x k l n : ℕ)
-    → n ≡ number_by (held_in m.ids m.id_marks m.tallies x) (elem x seen) (eqb k no_class_kind) (bad_in m.slots m.slot_marks m.owners m.tallies x l)
-    → l ≡ get_or m.locations (0 + x) 0 → n ≡ row_number m seen x k
-unfolding row_number
+pub row_told : (m : Memory) (seen : List ℕ) (x k l : ℕ) (n : Option Kind)
+    → n ≡ wrong_by (held_in m.ids m.id_marks m.tallies x) (elem x seen) (eqb k no_class_kind) (bad_in m.slots m.slot_marks m.owners m.tallies x l)
+    → l ≡ get_or m.locations (0 + x) 0 → n ≡ row_wrong m seen x k
+unfolding row_wrong
 row_told m seen x k l n e p =
     let z : 0 + x ≡ x = omega arith in
-    e ∙ ap (λ y. number_by (held_in m.ids m.id_marks m.tallies x) (elem x seen) (eqb k no_class_kind) (bad_in m.slots m.slot_marks m.owners m.tallies x y)) (p ∙ ap (λ y. get_or m.locations y 0) z)
+    e ∙ ap (λ y. wrong_by (held_in m.ids m.id_marks m.tallies x) (elem x seen) (eqb k no_class_kind) (bad_in m.slots m.slot_marks m.owners m.tallies x y)) (p ∙ ap (λ y. get_or m.locations y 0) z)
 
 -- the locations found so far
 pub found_on : (ls is found : List ℕ) (i v : ℕ) → length found ≡ most_updates → i < most_updates → v ≡ get_or ls (0 + get_or is i 0) 0
@@ -146,15 +140,15 @@ found_on ls is found i v l h e f k a b = by (ℕ_discrete k i)
     by (no n) = get_or-set_other found i k v 0 n ∙ f k (omega (arith, n)) b
 
 -- a turn of the check, and its end
-module _ (m : Memory) (is ks : List ℕ) (i n : ℕ) (h : i < length is) (l : i < length ks) (e : n ≡ row_number m (before i is) (get_or is i 0) (get_or ks i 0)) where
+module _ (m : Memory) (is ks : List ℕ) (i : ℕ) (n : Option Kind) (h : i < length is) (l : i < length ks) (e : n ≡ row_wrong m (before i is) (get_or is i 0) (get_or ks i 0)) where
   abbrev Next : Verdict
   Next = check_in m (before (i + 1) is) (i + 1) (drop (i + 1) is) (drop (i + 1) ks)
 
-  pub check_stop : (n ≡ 0 → ⊥) → refuse n i ≡ check_in m (before i is) i (drop i is) (drop i ks)
-  check_stop z = sym (say_at_some n i Next z) ∙ ap (λ x. say_at x i Next) e ∙ sym (check_in_turn m is ks i h l)
+  pub check_stop : (kind : Kind) → n ≡ Some kind → refuse kind i ≡ check_in m (before i is) i (drop i is) (drop i ks)
+  check_stop kind z = ap (λ x. say_at x i Next) (sym z ∙ e) ∙ sym (check_in_turn m is ks i h l)
 
-  pub check_on : n ≡ 0 → Next ≡ check_in m (before i is) i (drop i is) (drop i ks)
-  check_on z = sym (say_at_none n i Next z) ∙ ap (λ x. say_at x i Next) e ∙ sym (check_in_turn m is ks i h l)
+  pub check_on : n ≡ None → Next ≡ check_in m (before i is) i (drop i is) (drop i ks)
+  check_on z = ap (λ x. say_at x i Next) (sym z ∙ e) ∙ sym (check_in_turn m is ks i h l)
 
 pub check_end : (m : Memory) (seen is ks : List ℕ) (j i : ℕ) → length is ≤ i → ok ≡ check_in m seen j (drop i is) ks
 unfolding check_in

@@ -1,6 +1,7 @@
 -- The updates of an offer, as the code goes through them. Nothing here has to be believed: LawsUpdates of crate offer shows that each says
 -- what the model says of the batch. Assumes nothing.
-use Rattle.std.specs.Prelude.{Bool, true, false, cond, List, [], ◌∷◌, ℕ, zero, suc, eqb, get_or, replicate}
+use Rattle.std.specs.Prelude.{Bool, true, false, cond, List, [], ◌∷◌, ℕ, zero, suc, eqb, get_or, replicate, Option, Some, None}
+use Rattle.refusal.specs.declared.Kind.{Kind}
 use Rattle.refusal.specs.Refusals.{no_such_id, repeated_id, too_large, tables_disagree}
 use Rattle.list_parts.specs.Lists.{elem}
 use Rattle.sizes.specs.Sizes.{slabs, slab_for}
@@ -35,22 +36,23 @@ abbrev pub before : ℕ → List ℕ → List ℕ
 before zero is = []
 before (suc i) is = get_or is i 0 ∷ before i is
 
--- the number of the first test that is met, 0 where none is
-unfoldable pub number_by : Bool → Bool → Bool → Bool → ℕ
-number_by held repeated none bad = cond held (cond repeated repeated_id (cond none too_large (cond bad tables_disagree 0))) no_such_id
+-- the first test that is met
+unfoldable pub wrong_by : Bool → Bool → Bool → Bool → Option Kind
+wrong_by held repeated none bad =
+    cond held (cond repeated (Some repeated_id) (cond none (Some too_large) (cond bad (Some tables_disagree) None))) (Some no_such_id)
 
 -- of id x, after those seen, and slab k
-unfoldable pub row_number : Memory → List ℕ → ℕ → ℕ → ℕ
-row_number m seen x k =
-    number_by (held_in m.ids m.id_marks m.tallies x) (elem x seen) (eqb k no_class_kind)
+unfoldable pub row_wrong : Memory → List ℕ → ℕ → ℕ → Option Kind
+row_wrong m seen x k =
+    wrong_by (held_in m.ids m.id_marks m.tallies x) (elem x seen) (eqb k no_class_kind)
     (bad_in m.slots m.slot_marks m.owners m.tallies x (get_or m.locations x 0))
 
--- refused where the number is not 0
-abbrev pub say_at : ℕ → ℕ → Verdict → Verdict
-say_at zero i v = v
-say_at (suc n) i v = refuse (suc n) i
+-- refused where something is wrong
+abbrev pub say_at : Option Kind → ℕ → Verdict → Verdict
+say_at None i v = v
+say_at (Some kind) i v = refuse kind i
 
 unfoldable pub check_in : Memory → List ℕ → ℕ → List ℕ → List ℕ → Verdict
 check_in m seen i [] ks = ok
 check_in m seen i (x ∷ is) [] = ok
-check_in m seen i (x ∷ is) (k ∷ ks) = say_at (row_number m seen x k) i (check_in m (x ∷ seen) (suc i) is ks)
+check_in m seen i (x ∷ is) (k ∷ ks) = say_at (row_wrong m seen x k) i (check_in m (x ∷ seen) (suc i) is ks)

@@ -17,7 +17,7 @@ ghost use Rattle.model.specs.Lending.{place_tables};
 ghost use Rattle.model.specs.Lent.{lent_by};
 ghost use Rattle.model.specs.Verdict.{judged_verdict};
 ghost use Rattle.tables.specs.Entries.{held_in, bad_in};
-ghost use Rattle.offer_updates.specs.Kinds.{no_class_kind, no_kinds, kind_of, kinds_of, before, number_by, check_in};
+ghost use Rattle.offer_updates.specs.Kinds.{no_class_kind, no_kinds, kind_of, kinds_of, before, wrong_by, check_in};
 
 use address::SlabAddress;
 use refusal::{Kind, Refusal};
@@ -123,8 +123,8 @@ fn location_of(found: &[u64], locations: &[u64], ids: &[u64], i: usize) -> u64
     get(locations, 0, ids[i] as usize)
 }
 
-// The number that update i is refused with, 0 where it is not.
-fn number(
+// Why update i is refused, where it is.
+fn wrong(
     caps: Capacities,
     id_marks: &[u8],
     slot_marks: &[u8],
@@ -135,10 +135,10 @@ fn number(
     slab: usize,
     location: u64,
     near: bool,
-) -> u8
+) -> Option<Kind>
     requires { (i < length ids.now) × (near ≡ false → elem (get_or ids.now i 0) (before i ids.now) ≡ false) }
     ensures { result
-        ≡ number_by
+        ≡ wrong_by
         (held_in caps.ids id_marks.now tallies.now (get_or ids.now i 0))
         (elem (get_or ids.now i 0) (before i ids.now))
         (eqb slab no_class_kind)
@@ -147,18 +147,18 @@ fn number(
 {
     let id = ids[i];
     if !held_id(caps.ids, id_marks, tallies, id) {
-        return Kind::NoSuchId;
+        return Some(Kind::NoSuchId);
     }
     if earlier(ids, i, near) {
-        return Kind::RepeatedId;
+        return Some(Kind::RepeatedId);
     }
     if slab == NO_CLASS {
-        return Kind::TooLarge;
+        return Some(Kind::TooLarge);
     }
     if bad_location(caps.slots, slot_marks, owners, tallies, id, location) {
-        return Kind::TablesDisagree;
+        return Some(Kind::TablesDisagree);
     }
-    0
+    None
 }
 
 // The first refusal, in list order.
@@ -189,7 +189,7 @@ pub fn check(
         }
         let bucket = (ids[i] % BUCKETS) as usize;
         let location = location_of(&found, locations, ids, i);
-        let n = number(
+        if let Some(kind) = wrong(
             caps,
             id_marks,
             slot_marks,
@@ -200,9 +200,8 @@ pub fn check(
             slabs[i],
             location,
             seen[bucket],
-        );
-        if n != 0 {
-            return Err(Refusal::at(n, i));
+        ) {
+            return Err(Refusal::at(kind, i));
         }
         seen[bucket] = true;
         i += 1;

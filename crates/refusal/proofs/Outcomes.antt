@@ -1,8 +1,9 @@
 -- That an outcome tells which answer it is: two answers of one outcome are one. Each crate has the law of its own answers, named after their
 -- outcome, with -one. It is enough to read the answer back. Assumes nothing.
-use mathlib.Core.List.{List, []}
+use mathlib.Core.List.{List, [], ◌∷◌}
 use mathlib.Core.Path.{◌≡◌, refl, sym, ap, ◌∙◌}
-use Prim.Native.Nat.{ℕ}
+use Prim.Native.Nat.{ℕ, ◌-◌}
+use lib.ListN.{get_or}
 use Rattle.std.specs.Prelude.{Result, Ok, Err, ⊤}
 use Rattle.refusal.specs.Outcomes.{Outcome, granted, refused, outcome_by, finished_outcome}
 use Rattle.refusal.specs.Refusals.{refusal, number_of}
@@ -26,3 +27,39 @@ outcome_one says grants h = one_by (outcome_by says) (read_back grants) λ r. el
 
 pub finished_outcome_one : (a b : Result ⊤ Refusal) → finished_outcome a ≡ finished_outcome b → a ≡ b
 finished_outcome_one = outcome_one (λ _. []) (λ _. tt) (λ a. refl)
+
+-- ---- a kind by its number
+abbrev pub kind_of : ℕ → Kind
+kind_of n = get_or (K.WrongShape ∷ K.TooLarge ∷ K.OutOfRange ∷ K.CheckDiffers ∷ K.TooLong ∷ K.UnknownVersion ∷ K.FanoutDiffers ∷ K.NoSuchId ∷ K.RepeatedId ∷ K.NoneFree ∷ K.BatchOpen ∷ K.NoBatch ∷ K.TablesDisagree ∷ K.RatioOutOfRange ∷ K.TooMany ∷ K.RepeatedLocation ∷ K.NothingToCut ∷ K.GapNotZero ∷ K.WrongBlock ∷ K.WrongEnd ∷ K.KeyTooLong ∷ K.SettingsDiffer ∷ K.BadMove ∷ K.NoFace ∷ K.BadFace ∷ K.TotalsRefused ∷ []) (n - 1) K.TotalsRefused
+
+pub kind_of_number : (k : Kind) → kind_of (number_of k) ≡ k
+kind_of_number K.WrongShape = refl
+kind_of_number K.TooLarge = refl
+kind_of_number K.OutOfRange = refl
+kind_of_number K.CheckDiffers = refl
+kind_of_number K.TooLong = refl
+kind_of_number K.UnknownVersion = refl
+kind_of_number K.FanoutDiffers = refl
+kind_of_number K.NoSuchId = refl
+kind_of_number K.RepeatedId = refl
+kind_of_number K.NoneFree = refl
+kind_of_number K.BatchOpen = refl
+kind_of_number K.NoBatch = refl
+kind_of_number K.TablesDisagree = refl
+kind_of_number K.RatioOutOfRange = refl
+kind_of_number K.TooMany = refl
+kind_of_number K.RepeatedLocation = refl
+kind_of_number K.NothingToCut = refl
+kind_of_number K.GapNotZero = refl
+kind_of_number K.WrongBlock = refl
+kind_of_number K.WrongEnd = refl
+kind_of_number K.KeyTooLong = refl
+kind_of_number K.SettingsDiffer = refl
+kind_of_number K.BadMove = refl
+kind_of_number K.NoFace = refl
+kind_of_number K.BadFace = refl
+kind_of_number K.TotalsRefused = refl
+
+-- two kinds of one number are one
+pub number_one : (a b : Kind) → number_of a ≡ number_of b → a ≡ b
+number_one = one_by number_of kind_of kind_of_number

@@ -14,6 +14,7 @@ use Rattle.little_endian.proofs.Laws.{append_bytes, zero_bytes, bytes_of_bytes, 
 use Rattle.sizes.specs.Sizes.{check_width}
 use Rattle.seal.specs.Seal.{check_of, signed, is_signed, resigned}
 use Rattle.seal.proofs.Laws.{length_signed, is_signed_signed, resigned_body}
+use Rattle.std.specs.Prelude.{Ok}
 use Rattle.settings.specs.Settings.{cookie_length, cookie_of, settings_of}
 use Rattle.settings.specs.declared.PersistentSettings.TheVariants as P
 
@@ -74,7 +75,7 @@ unfolding cookie_of signed body after
 cookie_three fanout rest = simp append_assoc
 
 -- ---- what is written is read, whatever comes after it
-pub settings_cookie : (fanout : ℕ) (rest : List ℕ) → fanout < 2 ^ 64 → settings_of (cookie_of fanout ++ rest) ≡ P.V1 fanout
+pub settings_cookie : (fanout : ℕ) (rest : List ℕ) → fanout < 2 ^ 64 → settings_of (cookie_of fanout ++ rest) ≡ Ok (P.V1 fanout)
 unfolding settings_of
 settings_cookie fanout rest h =
     let l = length_cookie_of fanout in

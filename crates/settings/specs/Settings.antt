@@ -21,18 +21,18 @@ pub record Storing : Type 0 where
 
 unfoldable pub storing : ℕ → List ℕ → Storing
 storing fanout cookie =
-    cond (eqb (length cookie) cookie_length) (record { answer = (Ok tt); cookie = cookie_of fanout })
+    cond (eqb (length cookie) cookie_length) (record { answer = Ok tt; cookie = cookie_of fanout })
     (record { answer = Err (refusal wrong_shape 0); cookie = cookie })
 
 -- ---- reading: bytes after 64 are ignored, and the padding is not looked at
-unfoldable pub settings_of : List ℕ → PersistentSettings
+unfoldable pub settings_of : List ℕ → Result PersistentSettings Refusal
 settings_of cookie =
-    cond (ltb (length cookie) cookie_length) (P.Refused (refusal wrong_shape 0))
-    (cond (not (is_signed (take cookie_length cookie))) (P.Refused (refusal check_differs 0))
-    (cond (not (eqb (get_at 0 2 cookie) 1)) (P.Refused (refusal unknown_version 0))
-    (P.V1 (get_at 2 10 cookie))))
+    cond (ltb (length cookie) cookie_length) (Err (refusal wrong_shape 0))
+    (cond (not (is_signed (take cookie_length cookie))) (Err (refusal check_differs 0))
+    (cond (not (eqb (get_at 0 2 cookie) 1)) (Err (refusal unknown_version 0))
+    (Ok (P.V1 (get_at 2 10 cookie)))))
 
 -- whether the settings found are those expected
-unfoldable pub agreement : ℕ → PersistentSettings → Result ⊤ Refusal
-agreement fanout (P.V1 found) = cond (eqb found fanout) (Ok tt) (Err (refusal fanout_differs 0))
-agreement fanout (P.Refused r) = Err r
+unfoldable pub agreement : ℕ → Result PersistentSettings Refusal → Result ⊤ Refusal
+agreement fanout (Ok (P.V1 found)) = cond (eqb found fanout) (Ok tt) (Err (refusal fanout_differs 0))
+agreement fanout (Err r) = Err r

@@ -8,6 +8,7 @@
 #![tactic(auto)]
 
 ghost use Rattle.std.specs.Prelude.{◌≡◌};
+ghost use Rattle.settings.specs.declared.PersistentSettings.TheVariants.{V1};
 ghost use Rattle.settings.specs.Settings.{Storing, storing, settings_of, agreement};
 
 use refusal::{Kind, Refusal};
@@ -23,10 +24,9 @@ const PADDING: usize = 10;
 const CHECK: usize = 60;
 
 // What a cookie says.
-#[derive(Clone, Copy)]
+#[derive(Clone, Copy, Debug, PartialEq, Eq)]
 pub enum PersistentSettings {
     V1 { leaf_fanout: u64 },
-    Refused(Refusal),
 }
 
 impl PersistentSettings {
@@ -46,36 +46,39 @@ impl PersistentSettings {
     }
 
     // Reads a cookie.
-    pub fn deserialize(cookie: &[u8]) -> PersistentSettings
+    pub fn deserialize(cookie: &[u8]) -> Result<PersistentSettings, Refusal>
         ensures { result ≡ settings_of cookie.now }
     {
         if cookie.len() < COOKIE_LENGTH {
-            return PersistentSettings::Refused(Refusal::of(Kind::WrongShape));
+            return Err(Refusal::of(Kind::WrongShape));
         }
         if !seal::agrees(&cookie[..COOKIE_LENGTH]) {
-            return PersistentSettings::Refused(Refusal::of(Kind::CheckDiffers));
+            return Err(Refusal::of(Kind::CheckDiffers));
         }
         if little_endian::get_at(cookie, 0, FANOUT) != VERSION {
-            return PersistentSettings::Refused(Refusal::of(Kind::UnknownVersion));
+            return Err(Refusal::of(Kind::UnknownVersion));
         }
-        PersistentSettings::V1 {
+        Ok(PersistentSettings::V1 {
             leaf_fanout: little_endian::get_at(cookie, FANOUT, PADDING),
-        }
+        })
     }
 
     // Whether the cookie was written with this fanout.
     pub fn verify(cookie: &[u8], leaf_fanout: u64) -> Result<(), Refusal>
         ensures { result ≡ agreement leaf_fanout (settings_of cookie.now) }
     {
-        match PersistentSettings::deserialize(cookie) {
-            PersistentSettings::V1 { leaf_fanout: found } => {
-                if found == leaf_fanout {
-                    Ok(())
-                } else {
-                    Err(Refusal::of(Kind::FanoutDiffers))
-                }
-            }
-            PersistentSettings::Refused(refusal) => Err(refusal),
+        if PersistentSettings::deserialize(cookie)?.leaf_fanout() != leaf_fanout {
+            return Err(Refusal::of(Kind::FanoutDiffers));
+        }
+        Ok(())
+    }
+
+    // The fanout that they give.
+    pub fn leaf_fanout(self) -> u64
+        ensures { self ≡ V1 result }
+    {
+        match self {
+            PersistentSettings::V1 { leaf_fanout } => leaf_fanout,
         }
     }
 }

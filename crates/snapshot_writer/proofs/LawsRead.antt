@@ -8,6 +8,7 @@ use lib.Dec.{eqb, ltb}
 use lib.ListN.{length, get_or, drop}
 use lib.Seq.{drop-length}
 use borrow.Author.Tests.{eq-eqb, ne_eqb, lt-ltb, le-ltb}
+use Rattle.refusal.specs.declared.Kind.{Kind}
 use Rattle.refusal.specs.Outcomes.{granted, refused}
 use Rattle.refusal.specs.Refusals.{wrong_shape, batch_open}
 use Rattle.refusal.specs.declared.Refusal.{Refusal}
@@ -121,7 +122,7 @@ module _ (m : Memory) where
   rows_refusal file long f l h o = later_refusal file f ∙ rw (eq-eqb (length file) (file_length version2 (length picked)) (h ∙ l), none_opened (get_or m.batch 0 0) o)
 
   -- ---- what writing leaves
-  leaves_refused : (file : List ℕ) (n i : ℕ) → refusal (read m) (ask (snapshot file)) ≡ refuse n i → ◌≡◌ {A = Left} (record { answer = refused n i; file = file }) (snapshot_leaves m file)
+  leaves_refused : (file : List ℕ) (n : Kind) (i : ℕ) → refusal (read m) (ask (snapshot file)) ≡ refuse n i → ◌≡◌ {A = Left} (record { answer = refused n i; file = file }) (snapshot_leaves m file)
   unfolding snapshot_leaves answer
   leaves_refused file n i e = rw e
 

@@ -12,16 +12,16 @@ returns-then-updates-long c = let a = c.args in keys_short a.checked a.long a.up
 pub returns-in_default : goal.returns-in_default
 returns-in_default c =
     let a = c.args in
-    ap (λ (r : Refusal). refuse r.number r.index) c.at.ensures
+    ap (λ (r : Refusal). refuse r.kind r.index) c.at.ensures
     ∙ keys_alone a.checked a.long a.updates c.if-updates-long.false c.in_default.is
 
 pub returns-then-decides : goal.returns-then-decides
 returns-then-decides c =
     let a = c.args in
-    keys_after a.checked a.long a.updates c.if-updates-long.false _ _ c.in-Refused.is c.decides.ensures c.if-decides.true
+    keys_after a.checked a.long a.updates c.if-updates-long.false _ _ c.in-Err.is c.decides.ensures c.if-decides.true
 
 pub returns : goal.returns
 returns c =
     let a = c.args in
-    ap (λ (r : Refusal). refuse r.number r.index) c.at.ensures
-    ∙ keys_before a.checked a.long a.updates c.if-updates-long.false _ _ c.in-Refused.is c.decides.ensures c.if-decides.false
+    ap (λ (r : Refusal). refuse r.kind r.index) c.at.ensures
+    ∙ keys_before a.checked a.long a.updates c.if-updates-long.false _ _ c.in-Err.is c.decides.ensures c.if-decides.false

@@ -13,10 +13,10 @@ returns-in_default c = sym (spot_in_at _ _ _ _ _ _ _ c.if-slab-ge-SLABS.false c.
 
 pub returns-in_default-pack : goal.returns-in_default-pack
 returns-in_default-pack c =
-    let made = made_packed _ _ _ _ (sym c.from_slab_slot.ensures ∙ c.in-At.is) in
+    let made = made_packed _ _ _ _ (sym c.from_slab_slot.ensures ∙ c.in-Ok.is) in
     sym (spot_in_at _ _ _ _ _ _ _ c.if-slab-ge-SLABS.false c.get-hint.ensures c.slab_marks.ensures c.smallest_free-slot.ensures (c.pack.ensures ∙ made) ∙ ap location_in c.in_default-pack.is)
 
 pub returns : goal.returns
 returns c =
-    let made = made_packed _ _ _ _ (sym c.from_slab_slot.ensures ∙ c.in-At.is) in
-    sym (spot_in_at _ _ _ _ _ _ _ c.if-slab-ge-SLABS.false c.get-hint.ensures c.slab_marks.ensures c.smallest_free-slot.ensures (c.pack.ensures ∙ made) ∙ ap location_in c.in-Location.is)
+    let made = made_packed _ _ _ _ (sym c.from_slab_slot.ensures ∙ c.in-Ok.is) in
+    sym (spot_in_at _ _ _ _ _ _ _ c.if-slab-ge-SLABS.false c.get-hint.ensures c.slab_marks.ensures c.smallest_free-slot.ensures (c.pack.ensures ∙ made) ∙ ap location_in c.in-Ok-pack.is)

@@ -14,7 +14,7 @@ pub returns-then-slab_lacks : goal.returns-then-slab_lacks
 returns-then-slab_lacks c =
     let a = c.args in
     let l = c.loop-slab in
-    ap (λ (r : Refusal). refuse r.number r.index) c.at.ensures
+    ap (λ (r : Refusal). refuse r.kind r.index) c.at.ensures
     ∙ room_stop a.slots a.slot_marks.now a.tallies.now a.asked.now l.slab c.get.result c.slab_lacks.result (search rules) c.get.ensures c.slab_lacks.ensures c.if-slab_lacks.true ∙ l.invariant.1
 
 pub loop-slab-preserved : goal.loop-slab-preserved

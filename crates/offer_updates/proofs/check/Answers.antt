@@ -25,20 +25,20 @@ returns-then-slabs-i c =
 pub location_of-location-requires : goal.location_of-location-requires
 location_of-location-requires c = (search rules, c.locations_of-found.ensures.0, c.locations_of-found.ensures.1)
 
-pub number-n-requires : goal.number-n-requires
-number-n-requires c =
+pub wrong-requires : goal.wrong-requires
+wrong-requires c =
     let l = c.loop-i in
     let a = c.args in
     (search rules, far (get_or a.ids.now l.i 0) a.ids.now l.i _ (l.invariant.2 (get_or a.ids.now l.i 0)))
 
-pub returns-then-n-ne0 : goal.returns-then-n-ne0
-returns-then-n-ne0 c =
+pub returns-in-Some : goal.returns-in-Some
+returns-in-Some c =
     let l = c.loop-i in
     let a = c.args in
     let m = lent_by place_tables a.caps.ids a.caps.slots a.id_marks.now a.locations.now a.slot_marks.now a.owners.now a.tallies.now in
-    ap (λ (r : Refusal). refuse r.number r.index) c.at.ensures
-    ∙ check_stop m a.ids.now a.slabs.now l.i c.number-n.result (search rules) (search rules)
-    (row_told m (before l.i a.ids.now) (get_or a.ids.now l.i 0) (get_or a.slabs.now l.i 0) _ _ c.number-n.ensures c.location_of-location.ensures) c.if-n-ne0.true ∙ l.invariant.3
+    ap (λ (r : Refusal). refuse r.kind r.index) c.at.ensures
+    ∙ check_stop m a.ids.now a.slabs.now l.i c.wrong.result (search rules) (search rules)
+    (row_told m (before l.i a.ids.now) (get_or a.ids.now l.i 0) (get_or a.slabs.now l.i 0) _ _ c.wrong.ensures c.location_of-location.ensures) _ c.in-Some.is ∙ l.invariant.3
 
 pub loop-i-preserved : goal.loop-i-preserved
 loop-i-preserved c =
@@ -48,8 +48,8 @@ loop-i-preserved c =
       search rules,
       search rules,
       seen_on a.ids.now l.i l.seen l.invariant.1 l.invariant.2,
-      check_on m a.ids.now a.slabs.now l.i c.number-n.result (search rules) (search rules)
-          (row_told m (before l.i a.ids.now) (get_or a.ids.now l.i 0) (get_or a.slabs.now l.i 0) _ _ c.number-n.ensures c.location_of-location.ensures) (omega arith) ∙ l.invariant.3,
+      check_on m a.ids.now a.slabs.now l.i c.wrong.result (search rules) (search rules)
+          (row_told m (before l.i a.ids.now) (get_or a.ids.now l.i 0) (get_or a.slabs.now l.i 0) _ _ c.wrong.ensures c.location_of-location.ensures) c.in_default.is ∙ l.invariant.3,
     )
 
 pub returns : goal.returns

@@ -11,8 +11,8 @@ unfolding object_part
 returns-in_default c = ap (λ (v : Result ℕ Refusal). object_part v c.args.slot.now) (sym c.in_default.is ∙ c.verdict.ensures)
 
 pub slice_bounds-result-end-2 : goal.slice_bounds-result-end-2
-slice_bounds-result-end-2 c = sym (length-take-le _ _ (verdict_within _ _ (sym c.verdict.ensures ∙ c.in-Object.is)))
+slice_bounds-result-end-2 c = sym (length-take-le _ _ (verdict_within _ _ (sym c.verdict.ensures ∙ c.in-Ok.is)))
 
 pub returns : goal.returns
 unfolding object_part
-returns c = ap (λ (v : Result ℕ Refusal). object_part v c.args.slot.now) (sym c.in-Object.is ∙ c.verdict.ensures)
+returns c = ap (λ (v : Result ℕ Refusal). object_part v c.args.slot.now) (sym c.in-Ok.is ∙ c.verdict.ensures)

@@ -1,16 +1,24 @@
-use mathlib.Core.Path.{sym, ◌∙◌}
+use mathlib.Core.Path.{sym, ap, ◌∙◌}
 use borrow.Author.Tests.{eq-eqb, ne_eqb}
+use Rattle.std.specs.Prelude.{Ok, Err}
+use Rattle.std.proofs.lemmas.Result.{err_from_is_err_and}
 use Rattle.settings.specs.Settings.{agreement}
 use Rattle.settings.proofs.PersistentSettings.verify.Goals as goal
 
-pub returns-then-found-leaf_fanout : goal.returns-then-found-leaf_fanout
+pub returns-then-leaf_fanout : goal.returns-then-leaf_fanout
 unfolding agreement
-returns-then-found-leaf_fanout c = simp (sym c.deserialize.ensures ∙ c.in-V1.is, eq-eqb _ _ c.if-found-leaf_fanout.true)
+returns-then-leaf_fanout c =
+    let found = sym c.deserialize.ensures ∙ c.in_ok-deserialize.was ∙ ap Ok c.leaf_fanout.ensures in
+    rw (found, ne_eqb _ _ c.if-leaf_fanout.true) (ap Err c.of.ensures)
 
-pub returns-else-found-leaf_fanout : goal.returns-else-found-leaf_fanout
+pub returns : goal.returns
 unfolding agreement
-returns-else-found-leaf_fanout c = simp (sym c.deserialize.ensures ∙ c.in-V1.is, ne_eqb _ _ c.if-found-leaf_fanout.false, c.of.ensures)
+returns c =
+    let found = sym c.deserialize.ensures ∙ c.in_ok-deserialize.was ∙ ap Ok c.leaf_fanout.ensures in
+    rw (found, eq-eqb _ _ c.if-leaf_fanout.false) (λ i. Ok tt)
 
-pub returns-in-Refused : goal.returns-in-Refused
+pub returns-in_err-deserialize : goal.returns-in_err-deserialize
 unfolding agreement
-returns-in-Refused c = simp (sym c.deserialize.ensures ∙ c.in-Refused.is)
+returns-in_err-deserialize c =
+    let p = err_from_is_err_and c.from_residual.result c.from_residual.ensures.1 in
+    rw (p.1, p.2, sym c.deserialize.ensures ∙ c.in_err-deserialize.was) (λ i. Err c.in_err-deserialize.field-0.0)

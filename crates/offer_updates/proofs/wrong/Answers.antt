@@ -1,7 +1,7 @@
--- `updates::number` meets its contract: each answer is the case of `number_by` that the tests on the way lead to. Assumes nothing.
+-- `offer_updates::wrong` meets its contract: each answer is the case of `wrong_by` that the tests on the way lead to. Assumes nothing.
 use mathlib.Core.Path.{sym, ◌∙◌}
 use Rattle.offer_updates.proofs.Laws.{row_not_held, row_repeated, row_large, row_bad, row_fine}
-use Rattle.offer_updates.proofs.number.Goals as goal
+use Rattle.offer_updates.proofs.wrong.Goals as goal
 
 pub returns-then-not-held_id : goal.returns-then-not-held_id
 returns-then-not-held_id c =
