@@ -1,5 +1,5 @@
 -- When a block can be written: what the test of each id and of the lengths says of the tables. Assumes nothing.
-use mathlib.Core.Bool.{Bool, true, false, ◌&&◌}
+use mathlib.Core.Bool.{Bool, true, ◌&&◌}
 use mathlib.Core.Path.{◌≡◌, refl, ap, ◌∙◌}
 use Rattle.std.specs.List.{list_all}
 use mathlib.Core.List.{List, [], ◌∷◌}
@@ -7,7 +7,7 @@ use Prim.Native.Nat.{ℕ, zero, suc, ◌≤◌, ◌<◌}
 use native.Mathlib.Omega.{arith}
 use lib.Dec.{eqb, leb, ltb}
 use lib.ListN.{length, get_or}
-use borrow.Author.Tests.{lt-ltb, ltb-true, eq-eqb, ne_eqb, eqb-true, le-leb, lt-leb, leb-true}
+use borrow.Author.Tests.{lt-ltb, ltb-true, eq-eqb, eqb-true, le-leb, leb-true}
 use Rattle.refusal.proofs.Tests.{and_true}
 use Rattle.snapshot_blocks.specs.Formats.{version2, per_block}
 use Rattle.snapshot_blocks.specs.Blocks.{AreRows, rows_in_both, each_below, can_write}
@@ -36,14 +36,6 @@ at_each_below rows (i ∷ ids) f = rw (lt-ltb i rows (f 0 (omega arith)), at_eac
 
 -- ---- the test of a block
 module _ (ids : List ℕ) (locations carried block : ℕ) where
-  pub can_write_many : 5 < length ids → can_write version2 ids locations carried block ≡ false
-  unfolding can_write
-  can_write_many h = rw (per_block_version2, lt-leb (length ids) 5 h)
-
-  pub can_write_short : length ids ≤ 5 → (block ≡ 512 → ⊥) → can_write version2 ids locations carried block ≡ false
-  unfolding can_write
-  can_write_short h n = rw (per_block_version2, le-leb (length ids) 5 h, ne_eqb block 512 n)
-
   pub can_write_each : length ids ≤ 5 → block ≡ 512 → can_write version2 ids locations carried block ≡ each_below (rows_in_both 80 locations carried) ids
   unfolding can_write
   can_write_each h e = rw (per_block_version2, le-leb (length ids) 5 h, eq-eqb block 512 e)

@@ -58,6 +58,7 @@ pub struct Row {
 }
 
 // Where the row at `k` starts, or where so many rows end.
+#[tactic(auto, using(crate::proofs::Turns::start_le))]
 fn start_of(width: usize, k: usize) -> usize
     requires { (width ≤ 80) × (k ≤ 20) }
     ensures { result ≡ 8 + (16 + width) * k }
@@ -152,6 +153,7 @@ fn is_padded(block: &[u8], count: usize) -> bool
 }
 
 // Whether the row at `start`, of version 2, is none that a store keeps: its key is too long, or what follows the key is not zero.
+#[tactic(auto, using(crate::proofs::Refused::refused_long, crate::proofs::Refused::refused_behind))]
 fn is_refused(rows: &[u8], start: usize) -> bool
     requires { start + 96 ≤ length rows.now }
     ensures { result ≡ not (is_normal (entry_of version2 (drop start rows.now)).carried) }
@@ -174,6 +176,7 @@ fn any_refused(rows: &[u8], count: usize) -> bool
 }
 
 // Whether some of the first rows of a block is refused; version 1 refuses none.
+#[tactic(auto, using(crate::proofs::Turns::format_of_now, crate::proofs::Turns::format_of_before, crate::proofs::Turns::per_block_version2, crate::proofs::Turns::any_refused_version1))]
 fn has_refused(block: &[u8], count: usize) -> bool
     requires { (length block.now ≡ 512) × (count ≤ per_block (format_of (version_in block.now))) }
     ensures { result
@@ -184,6 +187,7 @@ fn has_refused(block: &[u8], count: usize) -> bool
 }
 
 // Whether what follows so many rows is zero, none of them is refused, and they ascend.
+#[tactic(auto, using(crate::proofs::Turns::format_of_sound, crate::proofs::Turns::format_of_few))]
 fn has_right_rows(block: &[u8], count: usize) -> bool
     requires { (length block.now ≡ 512) × (count ≤ per_block (format_of (version_in block.now))) }
     ensures { result
@@ -210,6 +214,7 @@ fn is_right(block: &[u8], number: usize, last: bool) -> bool
 }
 
 // What is wrong in a block that has its length.
+#[tactic(auto, unfolding(crate::specs::Blocks::wrong_in))]
 fn wrong_in_block(block: &[u8], number: usize, last: bool) -> Option<Kind>
     requires { length block.now ≡ 512 }
     ensures { result ≡ wrong_in (format_of (version_in block.now)) number last block.now }
@@ -227,6 +232,7 @@ fn wrong_in_block(block: &[u8], number: usize, last: bool) -> Option<Kind>
 }
 
 // What is wrong in the block at `number` by itself.
+#[tactic(auto, unfolding(crate::specs::Blocks::judged_in))]
 pub fn wrong_in(block: &[u8], number: usize, last: bool) -> Option<Kind>
     ensures { result ≡ judged_in (format_of (version_in block.now)) number last block.now }
 {
@@ -254,6 +260,7 @@ pub fn id_at(block: &[u8], k: usize) -> u64
 }
 
 // How long the key of the row at `start` is; a row of version 1 has none.
+#[tactic(auto, using(crate::proofs::Turns::key_length_none, crate::proofs::Turns::key_length_some))]
 fn key_length(block: &[u8], start: usize) -> usize
     requires { start ≤ 2000 }
     ensures { result ≡ key_length_in (format_of (version_in block.now)) (drop start block.now) }
@@ -265,6 +272,7 @@ fn key_length(block: &[u8], start: usize) -> usize
 }
 
 // The row at `k`, the place of its key counted from the block's start.
+#[tactic(auto, using(crate::proofs::Turns::row_shown))]
 pub fn row_at(block: &[u8], k: usize) -> Row
     ensures { result ≡ row_at (format_of (version_in block.now)) 0 (min k 20) block.now }
 {
@@ -350,6 +358,7 @@ fn can_write(ids: &[u64], locations: usize, carried: usize, block: usize) -> boo
 }
 
 // Writes the block at `number`: the rows of these ids. Where that cannot be, the block is left as it was.
+#[tactic(auto, using(crate::proofs::CanWrite::can_write_rows))]
 pub fn write(number: u64, ids: &[u64], locations: &[u64], carried: &[u8], block: &mut [u8])
     ensures { block.new
         ≡ cond
