@@ -60,17 +60,6 @@ fn width_of(file: &[u8]) -> usize
     snapshot_blocks::width_in(&file[0..BLOCK])
 }
 
-// How many rows there are in a file of blocks.
-fn total_of(file: &[u8], most: usize) -> usize
-    requires { (512 ≤ length file.now) × (most ≤ 20) × (count_in (block_at (length file.now / 512 - 1) file.now) ≤ 20) }
-    ensures { (f : Format) → per_block f ≡ most → result ≡ total f file.now }
-{
-    let before = file.len() / BLOCK - 1;
-    let start = BLOCK * before;
-    let end = start + BLOCK;
-    most * before + snapshot_blocks::count_in(&file[start..end])
-}
-
 // How long the key of a row is that carries so many bytes.
 fn key_length(row: &[u8], wide: usize) -> usize
     ensures { result ≡ cond (ltb 8 wide) (get_at 24 25 row.now) 0 }
@@ -94,7 +83,8 @@ fn write_brought(row: &[u8], long: usize, to: &mut [u8])
     list_parts::copy(&row[KEY_AT..end], &mut to[BROUGHT_KEY..WIDTH]);
 }
 
-// Puts the row that these bytes start with, and that carries so many bytes, into the lists at p.
+// Puts the row that these bytes start with, and that carries so many bytes, into the lists at p. The lists are lent apart by the C interface,
+// and are passed on so: a value of three `&mut` would only be taken apart again.
 fn take_row(
     row: &[u8],
     wide: usize,
@@ -118,38 +108,50 @@ fn take_row(
     carried::put_row(carried, p, &held);
 }
 
-// The bytes from the row at p to the end of its block, where so many rows fit a block and each carries so many bytes.
-fn row_of(file: &[u8], p: usize, most: usize, wide: usize) -> &[u8]
-    requires { (0 < most) × (p / most < length file.now / 512) × (wide ≤ 80) × ((16 + wide) * most ≤ 480) }
-    ensures { result.now ≡ drop (8 + (16 + wide) * (p % most)) (block_at (p / most) file.now) }
-{
-    let block = BLOCK * (p / most);
-    let row = NUMBERS + wide;
-    let start = block + (ROWS_AT + row * (p % most));
-    let end = block + BLOCK;
-    &file[start..end]
-}
-
-// Puts all rows of a file in which nothing is wrong into the lists.
-fn take(
-    file: &[u8],
-    n: usize,
+// A file of blocks, how many rows fit one, and how many bytes each carries.
+#[derive(Clone, Copy)]
+struct Blocks<'a> {
+    file: &'a [u8],
     most: usize,
     wide: usize,
-    ids: &mut [u64],
-    locations: &mut [u64],
-    carried: &mut [u8],
-)
-    requires { (most ≡ per_block (format_in file.now)) × (wide ≡ (format_in file.now).width) × (is_place 0 (length file.now) ≡ true)
-        × ((j : ℕ) → j < length file.now / 512 → wrong_at (format_in file.now) j file.now ≡ None) × (n ≡ total (format_in file.now) file.now)
-        × (n ≤ length ids.old) × (length locations.old ≡ length ids.old) }
-    ensures { (ids.new ≡ ids_from (format_in file.now) file.now 0 n ids.old)
-        × (locations.new ≡ locations_from (format_in file.now) file.now 0 n locations.old)
-        × (carried.new ≡ carried_from (format_in file.now) file.now 0 n carried.old) }
-{
-    for p in 0..n {
-        let row = row_of(file, p, most, wide);
-        take_row(row, wide, p, ids, locations, carried);
+}
+
+impl<'a> Blocks<'a> {
+    // How many rows there are.
+    fn total(self) -> usize
+        requires { (512 ≤ length self.file.now) × (self.most ≤ 20) × (count_in (block_at (length self.file.now / 512 - 1) self.file.now) ≤ 20) }
+        ensures { (f : Format) → per_block f ≡ self.entry.most → result ≡ total f self.entry.file.now }
+    {
+        let before = self.file.len() / BLOCK - 1;
+        let start = BLOCK * before;
+        let end = start + BLOCK;
+        self.most * before + snapshot_blocks::count_in(&self.file[start..end])
+    }
+
+    // The bytes from the row at p to the end of its block.
+    fn row(self, p: usize) -> &'a [u8]
+        requires { (0 < self.most) × (p / self.most < length self.file.now / 512) × (self.wide ≤ 80) × ((16 + self.wide) * self.most ≤ 480) }
+        ensures { result.now ≡ drop (8 + (16 + self.entry.wide) * (p % self.entry.most)) (block_at (p / self.entry.most) self.entry.file.now) }
+    {
+        let block = BLOCK * (p / self.most);
+        let row = NUMBERS + self.wide;
+        let start = block + (ROWS_AT + row * (p % self.most));
+        let end = block + BLOCK;
+        &self.file[start..end]
+    }
+
+    // Puts all n rows, where nothing is wrong in the file, into the lists.
+    fn take(self, n: usize, ids: &mut [u64], locations: &mut [u64], carried: &mut [u8])
+        requires { (self.most ≡ per_block (format_in self.file.now)) × (self.wide ≡ (format_in self.file.now).width) × (is_place 0 (length self.file.now) ≡ true)
+            × ((j : ℕ) → j < length self.file.now / 512 → wrong_at (format_in self.file.now) j self.file.now ≡ None) × (n ≡ total (format_in self.file.now) self.file.now)
+            × (n ≤ length ids.old) × (length locations.old ≡ length ids.old) }
+        ensures { (ids.new ≡ ids_from (format_in self.entry.file.now) self.entry.file.now 0 n ids.old)
+            × (locations.new ≡ locations_from (format_in self.entry.file.now) self.entry.file.now 0 n locations.old)
+            × (carried.new ≡ carried_from (format_in self.entry.file.now) self.entry.file.now 0 n carried.old) }
+    {
+        for p in 0..n {
+            take_row(self.row(p), self.wide, p, ids, locations, carried);
+        }
     }
 }
 
@@ -182,7 +184,9 @@ pub fn read(
         return Err(Refusal::of(Kind::WrongShape));
     }
     judge(file, blocks)?;
-    let n = total_of(file, most);
-    take(file, n, most, width_of(file), ids, locations, carried);
+    let wide = width_of(file);
+    let all = Blocks { file, most, wide };
+    let n = all.total();
+    all.take(n, ids, locations, carried);
     Ok(n)
 }

@@ -40,15 +40,15 @@ returns-in_err-judge c =
     let p = err_from_is_err_and c.from_residual.result c.from_residual.ensures.1 in
     simp (p.1, p.2, sym c.is_place.ensures ∙ not-false _ c.if-not-is_place.false-raw, r, sym c.judge.ensures ∙ c.in_err-judge.was)
 
-pub total_of-n-requires : goal.total_of-n-requires
-total_of-n-requires c =
+pub total-n-requires : goal.total-n-requires
+total-n-requires c =
     let file = c.args.file.now in
     let p = sym c.is_place.ensures ∙ not-false _ c.if-not-is_place.false-raw in
     let h = sym c.judge.ensures ∙ c.in_ok-judge.was in
     (omega (arith, place_end _ _ p), rw c.most_of-most.ensures (format_of_few (version_in (block_at 0 file))), last_few file p h)
 
-pub width_of-requires : goal.width_of-requires
-width_of-requires c = omega (arith, place_end _ _ (sym c.is_place.ensures ∙ not-false _ c.if-not-is_place.false-raw))
+pub width_of-wide-requires : goal.width_of-wide-requires
+width_of-wide-requires c = omega (arith, place_end _ _ (sym c.is_place.ensures ∙ not-false _ c.if-not-is_place.false-raw))
 
 pub take-requires : goal.take-requires
 take-requires c =
@@ -58,8 +58,8 @@ take-requires c =
     let h = sym c.judge.ensures ∙ c.in_ok-judge.was in
     let m = c.most_of-most.ensures in
     let r = room f _ _ _ _ (sym (c.is_room.ensures f (sym m)) ∙ not-false _ c.if-not-is_room.false-raw) in
-    let n = c.total_of-n.ensures f (sym m) in
-    (m, c.width_of.ensures, p, by_format file p h, n, rw n (le_trans (total_fits file p h) r.0), r.1)
+    let n = c.total-n.ensures f (sym m) in
+    (m, c.width_of-wide.ensures, p, by_format file p h, n, rw n (le_trans (total_fits file p h) r.0), r.1)
 
 pub returns : goal.returns
 returns c =
@@ -71,4 +71,4 @@ returns c =
     let w = sym c.judge.ensures ∙ c.in_ok-judge.was in
     let t = c.take.ensures in
     read_into_rows f file a.ids.now a.locations.now a.carried.now _ _ _ _ refl (sym c.is_place.ensures ∙ not-false _ c.if-not-is_place.false-raw) r w
-    (c.total_of-n.ensures f (sym m)) t.0 t.1 t.2
+    (c.total-n.ensures f (sym m)) t.0 t.1 t.2

@@ -7,14 +7,14 @@ use Rattle.snapshot_lists.specs.Lists.{total, format_in}
 use Rattle.snapshot_lists.proofs.Turns.{ids_start, locations_start, carried_start, ids_turn, locations_turn, carried_turn, ids_done, locations_done, carried_done}
 use Rattle.snapshot_lists.proofs.Rows.{sound, most_some, row_block, all_le, entry_of_row, taken_refused, taken_wide, taken_key, taken_key_within}
 use borrow.Author.Rules.{rules}
-use Rattle.snapshot_lists.proofs.take.Goals as goal
+use Rattle.snapshot_lists.proofs.Blocks.take.Goals as goal
 
 pub loop-p-init : goal.loop-p-init
 loop-p-init c = ((refl, refl, refl), (ids_start _ _ _ _, locations_start _ _ _ _, carried_start _ _ _ _))
 
-pub row_of-row-requires : goal.row_of-row-requires
-row_of-row-requires c =
-    let file = c.args.file.now in
+pub row-requires : goal.row-requires
+row-requires c =
+    let file = c.args.self.file.now in
     let pre = c.requires in
     let h : c.loop-p.p < total (format_in file) file = rw pre.4 at c.loop-p-test.true in
     let m = pre.0 in
@@ -27,11 +27,11 @@ row_of-row-requires c =
 
 pub take_row-requires : goal.take_row-requires
 take_row-requires c =
-    let file = c.args.file.now in
+    let file = c.args.self.file.now in
     let pre = c.requires in
     let t = c.loop-p-test.true in
     let h : c.loop-p.p < total (format_in file) file = rw pre.4 at t in
-    let e = c.row_of-row.ensures in
+    let e = c.row.ensures in
     let l = c.loop-p.invariant.0 in (
       omega (arith, l.0, pre.5),
       omega (arith, l.1, pre.5, pre.6),
@@ -42,11 +42,11 @@ take_row-requires c =
 
 pub loop-p-preserved : goal.loop-p-preserved
 loop-p-preserved c =
-    let file = c.args.file.now in
+    let file = c.args.self.file.now in
     let pre = c.requires in
     let t = c.loop-p-test.true in
     let h : c.loop-p.p < total (format_in file) file = rw pre.4 at t in
-    let e = c.row_of-row.ensures in
+    let e = c.row.ensures in
     let q = entry_of_row file pre.2 pre.3 _ h _ _ _ pre.0 pre.1 e in
     let r = taken_refused file pre.2 pre.3 _ h _ _ _ pre.0 pre.1 e in
     let s = rw q at (c.take_row.ensures (format_in file) (sound file pre.2 pre.3 _ h) (sym pre.1) r) in
