@@ -26,7 +26,7 @@ returns-in-Listed c =
     let lent = c.args.told.now in
     told_exported reason_answer _ _ _ c.reason_for_object.ensures c.in-Listed.is 7 lent _ _ c.if-told-ne7.false refl (sym c.put-in-Listed.ensures)
 
-pub returns-in-Refused : goal.returns-in-Refused
-returns-in-Refused c =
+pub returns-in-Err : goal.returns-in-Err
+returns-in-Err c =
     let lent = c.args.told.now in
-    told_exported reason_answer _ _ _ c.reason_for_object.ensures c.in-Refused.is 7 lent _ _ c.if-told-ne7.false (sym c.status.ensures) refl
+    told_exported reason_answer _ _ _ c.reason_for_object.ensures c.in-Err.is 7 lent _ _ c.if-told-ne7.false (sym c.status.ensures) refl
