@@ -121,7 +121,7 @@ word_more (suc k) [] = rw (zero-mul (256 ^ suc k))
 word_more (suc k) (b ∷ bs) =
     rw (pow-suc 256 k, ← mul_assoc (get_or bs k 0) (256 ^ k) 256) (omega (arith, word_more k bs))
 
-word_worth : (k : ℕ) (l : List ℕ) → sum_through (λ i. byte_worth i (get_or l i 0)) k ≡ word (take (suc k) l)
+pub word_worth : (k : ℕ) (l : List ℕ) → sum_through (λ i. byte_worth i (get_or l i 0)) k ≡ word (take (suc k) l)
 unfolding word
 word_worth zero l = sym (omega (arith, word_more 0 l))
 word_worth (suc k) l = ap (λ n. n + get_or l (suc k) 0 * 256 ^ suc k) (word_worth k l) ∙ sym (word_more (suc k) l)
