@@ -136,7 +136,7 @@ fn repeats(marks: &mut [u8], group: u64, location: u64) -> bool
 fn first_in(marks: &mut [u8], group: u64, locations: &[u64]) -> usize
     ensures { result ≡ repeat_in group (replicate (length marks.old) 0) 0 locations.now }
 {
-    tables::clear_marks(marks);
+    marks.fill(0);
     let mut i: usize = 0;
     while i < locations.len() {
         if repeats(marks, group, locations[i]) {

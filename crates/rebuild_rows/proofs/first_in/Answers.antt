@@ -1,7 +1,7 @@
 -- `rows::first_in` meets its contract. The loop's invariant: the first repeat from the present location on, by the present marks, is the first of all. The measure is how many locations are left. Assumes nothing.
 use Prim.Native.Nat.{◌+◌}
 use mathlib.Core.Path.{ap, sym, ◌∙◌}
-use lib.ListN.{length, drop, length-replicate}
+use lib.ListN.{length, drop}
 use native.Mathlib.Omega.{arith}
 use Rattle.rebuild_rows.specs.Checks.{repeat_in}
 use Rattle.rebuild_rows.proofs.Turns.{length_marked_by, repeat_in_here, repeat_in_next, repeat_in_end}
@@ -11,14 +11,14 @@ use Rattle.rebuild_rows.proofs.first_in.Goals as goal
 pub shape_of-marks-then-repeats : goal.shape_of-marks-then-repeats
 shape_of-marks-then-repeats c =
     let b = c.loop-i in
-    ap length c.repeats.ensures.1 ∙ length_marked_by c.args.group b.marks _ ∙ b.invariant.1 ∙ ap length c.clear_marks.ensures ∙ length-replicate _ 0
+    ap length c.repeats.ensures.1 ∙ length_marked_by c.args.group b.marks _ ∙ b.invariant.1 ∙ c.fill.ensures.len
 
 pub returns-then-repeats : goal.returns-then-repeats
 returns-then-repeats c =
     let a = c.args in
     let b = c.loop-i in
     sym (repeat_in_here a.group b.marks a.locations.now b.i (omega arith) (sym c.repeats.ensures.0 ∙ c.if-repeats.true)) ∙ b.invariant.2
-    ∙ ap (λ t. repeat_in a.group t 0 a.locations.now) c.clear_marks.ensures
+    ∙ ap (λ t. repeat_in a.group t 0 a.locations.now) (c.fill.ensures.after (λ y e. e))
 
 pub loop-i-preserved : goal.loop-i-preserved
 loop-i-preserved c =
@@ -32,10 +32,10 @@ loop-i-preserved c =
     )
 
 pub shape_of-marks : goal.shape_of-marks
-shape_of-marks c = c.loop-i.invariant.1 ∙ ap length c.clear_marks.ensures ∙ length-replicate _ 0
+shape_of-marks c = c.loop-i.invariant.1 ∙ c.fill.ensures.len
 
 pub returns : goal.returns
 returns c =
     let a = c.args in
     let b = c.loop-i in
-    sym (repeat_in_end a.group b.marks a.locations.now b.i (omega arith)) ∙ b.invariant.2 ∙ ap (λ t. repeat_in a.group t 0 a.locations.now) c.clear_marks.ensures
+    sym (repeat_in_end a.group b.marks a.locations.now b.i (omega arith)) ∙ b.invariant.2 ∙ ap (λ t. repeat_in a.group t 0 a.locations.now) (c.fill.ensures.after (λ y e. e))
