@@ -8,6 +8,8 @@ use native.Mathlib.Omega.{arith}
 use lib.Dec.{eqb-suc-zero}
 use lib.ListN.{length, get_or, take, drop, set, take-append-drop, length-drop, drop_of_length-le}
 use lib.Seq.{drop-cons, drop-drop, take-suc, take-add, take_all, length-take-le}
+use Rattle.std.specs.Prelude.{fold}
+use Rattle.std.specs.List.{count_by}
 use Rattle.marks.specs.Marks.{is_free, is_pending, is_held, is_taken, count_if, above, last_taken, tip_of, tip}
 
 -- what one mark adds to a count
@@ -38,6 +40,14 @@ count_if_le p (m ∷ ms) = by (p m) (count_if p ms) (count_if_le p ms)
     by : (b : Bool) (n : ℕ) → n ≤ length ms → cond b (suc n) n ≤ suc (length ms)
     by true n h = omega arith
     by false n h = omega arith
+
+-- counted from the front
+count_if_from : (p : ℕ → Bool) (ms : List ℕ) (n : ℕ) → fold (λ a m. a + cond (p m) 1 0) n ms ≡ n + count_if p ms
+count_if_from p [] n = omega arith
+count_if_from p (m ∷ ms) n = count_if_from p ms (n + weight (p m)) ∙ omega (arith, count_if_cons p m ms)
+
+pub count_if_by : (p : ℕ → Bool) (ms : List ℕ) → count_by p ms ≡ count_if p ms
+count_if_by p ms = count_if_from p ms 0 ∙ omega arith
 
 -- two tests of the same marks, the second through f
 pub count_if_map : (p q : ℕ → Bool) (f : ℕ → ℕ) → ((m : ℕ) → p (f m) ≡ q m) → (ms : List ℕ) → count_if p (map f ms) ≡ count_if q ms
