@@ -1,5 +1,5 @@
 pub mod Shifts
 pub mod Turns
 pub mod Bytes
-pub mod Left
+pub mod Read
 pub mod LastWords
