@@ -5,16 +5,18 @@
 // oracle/replay_data makes data/ of oracle/answers/*.txt, and stdout by counting there. The words of a line are in oracle/answers/README.md.
 #![tactic(auto)]
 
-mod calls;
+mod kinds;
 mod numbers;
 mod said;
 mod slots;
 mod snapshots;
 
+use replay_words::file;
 use std::io;
 
 fn main(rt: HostRuntime) -> io::Result<()> {
-    calls::file(&rt, b"leaves.words")?;
-    calls::file(&rt, b"cutoffs.words")?;
-    calls::file(&rt, b"snapshots.words")
+    for name in ["leaves.words", "cutoffs.words", "snapshots.words"] {
+        file::replay(&rt, name, kinds::agrees)?;
+    }
+    Ok(())
 }
