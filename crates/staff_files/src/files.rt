@@ -1,4 +1,6 @@
 // A file that is read whole, into memory of the length that it may have.
+ghost use Rattle.std.specs.Prelude.{◌≤◌, vec_len, IfOk};
+
 use std::alloc::AllocError;
 use std::fs::File;
 use std::io::{ErrorKind, Read};
@@ -51,7 +53,9 @@ fn say_error(rt: &(impl Eprint + AllocGlobal), name: &[u8], error: io::Error) ->
 }
 
 // All bytes of a file that has at most so many, and one more of a longer one. There is room for them before the first read.
-fn read(rt: &impl AllocGlobal, file: &mut impl Read, most: usize) -> Result<Vec<u8>, Unread> {
+fn read(rt: &impl AllocGlobal, file: &mut impl Read, most: usize) -> Result<Vec<u8>, Unread>
+    ensures { IfOk result (λ bytes. vec_len bytes ≤ most) }
+{
     let room = most.saturating_add(1);
     let mut bytes = Vec::with_capacity(rt.alloc(), room)?;
     let end = file.take(room as u64).read_to_end(&mut bytes);
@@ -69,7 +73,9 @@ pub fn load<R: Files + Eprint + AllocGlobal>(
     rt: &R,
     name: &[u8],
     most: usize,
-) -> Result<Vec<u8>, Unread> {
+) -> Result<Vec<u8>, Unread>
+    ensures { IfOk result (λ bytes. vec_len bytes ≤ most) }
+{
     match open(rt, name) {
         Ok(mut file) => read(rt, &mut file, most),
         Err(error) => {

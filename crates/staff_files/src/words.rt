@@ -1,4 +1,6 @@
 // The words that a program is started with, known by their places.
+ghost use Rattle.std.specs.Prelude.{◌≤◌, length};
+
 use std::env::{Env, FillError};
 
 // The most bytes of a word: those of a path, with the 0 that ends it.
@@ -13,7 +15,9 @@ pub fn word_count(env: &impl Env) -> usize {
 }
 
 // Word i, which is put at the start of the space: empty where there is none, or where it is longer than the space.
-pub fn word<'a>(env: &impl Env, i: usize, space: &'a mut [u8]) -> &'a [u8] {
+pub fn word<'a>(env: &impl Env, i: usize, space: &'a mut [u8]) -> &'a [u8]
+    ensures { length result.now ≤ length space.old }
+{
     let n = env.arg(i, space).unwrap_or(0);
     &space[..n]
 }
