@@ -7,12 +7,21 @@ use Rattle.refusal.proofs.Outcomes.{one_by, read_back}
 use Rattle.snapshot.specs.Outcomes.{step_outcome}
 use Rattle.std.specs.Prelude.{Result, Ok, Err, Option, Some, None}
 use Rattle.refusal.specs.declared.Refusal.{Refusal}
+use Rattle.snapshot_blocks.specs.declared.Row.{Row}
+use Rattle.snapshot.specs.declared.Position.{Position}
 
-abbrev step_back : List ℕ → Result (Option (Row × Position)) Refusal
-step_back [] = (Ok None)
+abbrev step_back : List ℕ → Option (Row × Position)
+step_back [] = None
 step_back (v ∷ vs) =
-    (λ a b. Ok (Some (a, b))) (record { id = v; collection = get_or vs 0 0; location = get_or vs 1 0; key = get_or vs 4 0; length = get_or vs 5 0 })
-    (record { block = get_or vs 2 0; row = get_or vs 3 0 })
+    Some (
+      record { id = v; collection = get_or vs 0 0; location = get_or vs 1 0; key = get_or vs 4 0; length = get_or vs 5 0 },
+      record { block = get_or vs 2 0; row = get_or vs 3 0 },
+    )
 
 pub step_outcome_one : (a b : Result (Option (Row × Position)) Refusal) → step_outcome a ≡ step_outcome b → a ≡ b
-step_outcome_one = one_by step_outcome (read_back step_back Err) λ s. elim s as (λ k. (read_back step_back Err) (step_outcome k) ≡ k) [ Ok (Some (r, next)) ↦ refl | (Ok None) ↦ refl | Err r ↦ refl ]
+step_outcome_one = one_by step_outcome (read_back step_back) back
+  where
+    back : (s : Result (Option (Row × Position)) Refusal) → read_back step_back (step_outcome s) ≡ s
+    back (Ok (Some (r, next))) = refl
+    back (Ok None) = refl
+    back (Err r) = refl

@@ -8,14 +8,18 @@ use native.Mathlib.Omega.{arith}
 use lib.Dec.{ltb, eqb}
 use lib.ListN.{length, take, drop, length-drop}
 use lib.Seq.{length-take-le}
-use borrow.Author.Tests.{eqb-true, eqb-false, ltb-true, eq-eqb, ne_eqb, lt-ltb}
+use borrow.Author.Tests.{eqb-true, ltb-true, eq-eqb, ne_eqb, lt-ltb}
 use Rattle.refusal.proofs.Tests.{and_true}
 use Rattle.snapshot_blocks.specs.declared.Row.{Row}
 use Rattle.snapshot_blocks.specs.Formats.{Format, format_of, row_length, per_block}
 use Rattle.snapshot_blocks.specs.Blocks.{wrong_in, judged_in, count_in, version_in, id_at, row_at}
 use Rattle.snapshot_blocks.proofs.Turns.{format_of_few, format_of_sound, judged_in_block}
 use Rattle.snapshot_blocks.proofs.Blocks.{Right, is_count_per_block, wrong_in_right, per_block_room}
-use Rattle.snapshot.specs.Snapshot.{block_at, is_place, is_last, follows, wrong_at, wrong_by}
+use Rattle.snapshot.specs.Snapshot.{block_at, is_place, is_last, follows, or_else, wrong_at, wrong_by}
+use Rattle.std.specs.Prelude.{Option, Some, None}
+use Rattle.std.proofs.lemmas.Option.{none-some}
+use Rattle.refusal.specs.declared.Kind.{Kind}
+use Rattle.refusal.specs.Refusals.{wrong_shape, wrong_block}
 
 pub record Place (number len : ℕ) : Type 0 where
   pub whole : len % 512 ≡ 0
@@ -63,57 +67,57 @@ module _ (before block : List ℕ) (known : version_in block ≡ (format_of (ver
       rw (eq-eqb (version_in before) (format_of (version_in block)).version (e ∙ known), p, q, few, e, l)
 
 -- ---- wrong_at
-module _ (f : Format) (number : ℕ) (file : List ℕ) (wrong : ℕ) (p : is_place number (length file) ≡ true)
+module _ (f : Format) (number : ℕ) (file : List ℕ) (wrong : Option Kind) (p : is_place number (length file) ≡ true)
     (e : wrong ≡ judged_in f number (is_last number file) (block_at number file)) where
   told : wrong ≡ wrong_in f number (is_last number file) (block_at number file)
   told = e ∙ judged_in_block f number (is_last number file) (block_at number file) (length_block_at number file (place_end number (length file) p))
 
-  pub wrong_at_in : (wrong ≡ 0 → ⊥) → wrong ≡ wrong_at f number file
+  pub wrong_at_in : (kind : Kind) → wrong ≡ Some kind → Some kind ≡ wrong_at f number file
   unfolding wrong_at
-  wrong_at_in h = rw (p, ← told, ne_eqb wrong 0 h)
+  wrong_at_in kind h = rw (p, ← told, h)
 
-  pub wrong_at_first : wrong ≡ 0 → number ≡ 0 → 0 ≡ wrong_at f number file
+  pub wrong_at_first : wrong ≡ None → number ≡ 0 → None ≡ wrong_at f number file
   unfolding wrong_at
-  wrong_at_first h z = rw (p, ← told, eq-eqb wrong 0 h, eq-eqb number 0 z)
+  wrong_at_first h z = rw (p, ← told, h, eq-eqb number 0 z)
 
   -- a block in which nothing is wrong is of the version of the format
-  pub wrong_at_known : wrong ≡ 0 → version_in (block_at number file) ≡ f.version
+  pub wrong_at_known : wrong ≡ None → version_in (block_at number file) ≡ f.version
   wrong_at_known h = (wrong_in_right f number (is_last number file) (block_at number file) (sym told ∙ h)).versioned
 
-  module _ (h : wrong ≡ 0) (z : number ≡ 0 → ⊥) (r : Bool) (q : r ≡ follows f (block_at (number - 1) file) (block_at number file)) where
-    pub wrong_at_follows : r ≡ true → 0 ≡ wrong_at f number file
+  module _ (h : wrong ≡ None) (z : number ≡ 0 → ⊥) (r : Bool) (q : r ≡ follows f (block_at (number - 1) file) (block_at number file)) where
+    pub wrong_at_follows : r ≡ true → None ≡ wrong_at f number file
     unfolding wrong_at
-    wrong_at_follows t = rw (p, ← told, eq-eqb wrong 0 h, ne_eqb number 0 z, ← q, t)
+    wrong_at_follows t = rw (p, ← told, h, ne_eqb number 0 z, ← q, t)
 
-    pub wrong_at_not : r ≡ false → 19 ≡ wrong_at f number file
+    pub wrong_at_not : r ≡ false → Some wrong_block ≡ wrong_at f number file
     unfolding wrong_at
-    wrong_at_not t = rw (p, ← told, eq-eqb wrong 0 h, ne_eqb number 0 z, ← q, t)
+    wrong_at_not t = rw (p, ← told, h, ne_eqb number 0 z, ← q, t)
 
 -- ---- when nothing is wrong at a place
 pub record Good (f : Format) (number : ℕ) (file : List ℕ) : Type 0 where
   pub place : is_place number (length file) ≡ true
   pub right : Right f number (is_last number file) (block_at number file)
 
-pub wrong_at_good : (f : Format) (number : ℕ) (file : List ℕ) → wrong_at f number file ≡ 0 → Good f number file
+pub wrong_at_good : (f : Format) (number : ℕ) (file : List ℕ) → wrong_at f number file ≡ None → Good f number file
 unfolding wrong_at
 wrong_at_good f number file =
-    by (is_place number (length file)) (eqb (wrong_in f number (is_last number file) (block_at number file)) 0) refl refl
+    by (is_place number (length file)) (wrong_in f number (is_last number file) (block_at number file)) refl refl
   where
-    by : (a b : Bool) → is_place number (length file) ≡ a → eqb (wrong_in f number (is_last number file) (block_at number file)) 0 ≡ b
-        → cond (not a) 1 (cond (not b) (wrong_in f number (is_last number file) (block_at number file)) (cond (eqb number 0) 0 (cond (follows f (block_at (number - 1) file) (block_at number file)) 0 19))) ≡ 0
+    by : (a : Bool) (w : Option Kind) → is_place number (length file) ≡ a → wrong_in f number (is_last number file) (block_at number file) ≡ w
+        → cond (not a) (Some wrong_shape) (or_else w (cond (eqb number 0) None (cond (follows f (block_at (number - 1) file) (block_at number file)) None (Some wrong_block)))) ≡ None
         → Good f number file
-    by false b p q e = absurd (omega arith)
-    by true false p q e = absurd (eqb-false _ _ q e)
-    by true true p q e = record { place = p; right = wrong_in_right f number (is_last number file) (block_at number file) (eqb-true _ _ q) }
+    by false w p q e = absurd (none-some _ (sym e))
+    by true (Some kind) p q e = absurd (none-some _ (sym e))
+    by true None p q e = record { place = p; right = wrong_in_right f number (is_last number file) (block_at number file) q }
 
-module _ (f : Format) (number : ℕ) (file : List ℕ) (e : wrong_at f number file ≡ 0) where
+module _ (f : Format) (number : ℕ) (file : List ℕ) (e : wrong_at f number file ≡ None) where
   pub wrong_at_count : count_in (block_at number file) ≤ per_block f
   wrong_at_count = is_count_per_block f number (is_last number file) (count_in (block_at number file)) (wrong_at_good f number file e).right.counted
 
   pub wrong_at_end : 512 * number + 512 ≤ length file
   wrong_at_end = place_end number (length file) (wrong_at_good f number file e).place
 
-pub wrong_at_few : (number : ℕ) (file : List ℕ) → wrong_by format_of number file ≡ 0 → count_in (block_at number file) ≤ 20
+pub wrong_at_few : (number : ℕ) (file : List ℕ) → wrong_by format_of number file ≡ None → count_in (block_at number file) ≤ 20
 wrong_at_few number file e =
     let v = version_in (block_at number file) in
     omega (arith, wrong_at_count (format_of v) number file e, format_of_few v)

@@ -2,6 +2,8 @@
 use Rattle.std.specs.Prelude.{[], ◌∷◌, Result, Ok, Err, Option, Some, None}
 use Rattle.refusal.specs.Outcomes.{Values, granted, refused_as}
 use Rattle.refusal.specs.declared.Refusal.{Refusal}
+use Rattle.snapshot_blocks.specs.declared.Row.{Row}
+use Rattle.snapshot.specs.declared.Position.{Position}
 
 -- the row, block and row of the next position, where in the file the key stands and how long it is; nothing at the end
 abbrev pub step_outcome : Result (Option (Row × Position)) Refusal → Values

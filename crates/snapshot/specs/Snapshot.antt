@@ -2,8 +2,10 @@
 use Rattle.std.specs.Prelude.{Bool, not, cond, ◌&&◌, List, ℕ, ◌+◌, ◌-◌, ◌*◌, ◌/◌, ◌%◌, eqb, ltb, length, take, drop, Result, Ok, Err, Option, Some, None}
 use Rattle.refusal.specs.Refusals.{refusal, wrong_shape, wrong_block}
 use Rattle.snapshot_blocks.specs.Formats.{Format, Reader, per_block}
+use Rattle.snapshot_blocks.specs.declared.Row.{Row}
 use Rattle.snapshot_blocks.specs.Blocks.{count_in, version_in, wrong_in, id_at, row_at}
 use Rattle.snapshot.specs.declared.Position.{Position}
+use Rattle.refusal.specs.declared.Kind.{Kind}
 use Rattle.refusal.specs.declared.Refusal.{Refusal}
 
 -- ---- blocks
@@ -20,6 +22,11 @@ is_last number file = eqb (512 * number + 512) (length file)
 -- whether the block before is of the same version, and its last row, of a full block, has a smaller id than the first of this one
 unfoldable pub follows : Format → List ℕ → List ℕ → Bool
 follows f before block = eqb (version_in before) f.version && ltb (id_at f (per_block f - 1) before) (id_at f 0 block)
+
+-- what the first names, and where it names nothing what the second does
+abbrev pub or_else : Option Kind → Option Kind → Option Kind
+or_else (Some kind) next = Some kind
+or_else None next = next
 
 -- what is wrong with the block at `number` of a file
 unfoldable pub wrong_at : Format → ℕ → List ℕ → Option Kind

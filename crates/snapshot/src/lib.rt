@@ -31,13 +31,11 @@ pub struct Position {
 }
 
 // Whether so many bytes are a whole number of blocks, and this is one of them.
+#[tactic(auto, unfolding(crate::specs::Snapshot::is_place))]
 pub fn is_place(number: usize, len: usize) -> bool
     ensures { result ≡ is_place number len }
 {
-    if len % BLOCK != 0 {
-        return false;
-    }
-    number < len / BLOCK
+    len % BLOCK == 0 && number < len / BLOCK
 }
 
 // Whether the block before one of a known version is of the same, and the block's first id is above the last of that full block.
@@ -45,50 +43,40 @@ fn follows_on(before: &[u8], block: &[u8]) -> bool
     requires { version_in block.now ≡ (format_of (version_in block.now)).version }
     ensures { result ≡ follows (format_of (version_in block.now)) before.now block.now }
 {
-    if snapshot_blocks::version_in(before) != snapshot_blocks::version_in(block) {
-        return false;
-    }
     let last = snapshot_blocks::most_in(block) - 1;
-    snapshot_blocks::id_at(before, last) < snapshot_blocks::id_at(block, 0)
+    snapshot_blocks::version_in(before) == snapshot_blocks::version_in(block)
+        && snapshot_blocks::id_at(before, last) < snapshot_blocks::id_at(block, 0)
 }
 
-// What is wrong with the block at `number`, 0 for nothing. The block before it is not judged again: of a file that is read from its
-// start it was.
-pub fn wrong_at(number: usize, file: &[u8]) -> u8
+// What is wrong with the block at `number`. The block before it is not judged again: of a file that is read from its start it was.
+pub fn wrong_at(number: usize, file: &[u8]) -> Option<Kind>
     ensures { result ≡ wrong_by format_of number file.now }
 {
     if !is_place(number, file.len()) {
-        return Kind::WrongShape;
+        return Some(Kind::WrongShape);
     }
     let start = BLOCK * number;
     let end = start + BLOCK;
-    let last = end == file.len();
-    let wrong = snapshot_blocks::wrong_in(&file[start..end], number, last);
-    if wrong != 0 {
-        return wrong;
+    let block = &file[start..end];
+    if let Some(kind) = snapshot_blocks::wrong_in(block, number, end == file.len()) {
+        return Some(kind);
     }
     if number == 0 {
-        return 0;
+        return None;
     }
-    let before = start - BLOCK;
-    if follows_on(&file[before..start], &file[start..end]) {
-        return 0;
+    if !follows_on(&file[start - BLOCK..start], block) {
+        return Some(Kind::WrongBlock);
     }
-    Kind::WrongBlock
+    None
 }
 
 // The position after a row.
+#[tactic(auto, unfolding(crate::specs::Snapshot::next_position))]
 fn next_of(number: usize, row: usize, count: usize, last: bool) -> Position
     requires { (row < 20) × (number < 2 ^ 55) }
     ensures { result ≡ next_position number row count last }
 {
-    if row + 1 < count {
-        return Position {
-            block: number,
-            row: row + 1,
-        };
-    }
-    if last {
+    if row + 1 < count || last {
         return Position {
             block: number,
             row: row + 1,
@@ -107,16 +95,18 @@ fn placed(row: Row, start: usize) -> Row
         (record { id = row.id; collection = row.collection; location = row.location; key = start + row.key; length = row.length }) }
 {
     Row {
-        id: row.id,
-        collection: row.collection,
-        location: row.location,
         key: start + row.key,
-        length: row.length,
+        ..row
     }
 }
 
 // The step in a block that is right.
-fn step_in(number: usize, row: usize, last: bool, block: &[u8]) -> Result<Option<(Row, Position)>, Refusal>
+fn step_in(
+    number: usize,
+    row: usize,
+    last: bool,
+    block: &[u8],
+) -> Result<Option<(Row, Position)>, Refusal>
     requires { (count_in block.now ≤ per_block (format_of (version_in block.now))) × (number < 2 ^ 55) }
     ensures { result ≡ step_in (format_of (version_in block.now)) number row last block.now }
 {
@@ -127,13 +117,10 @@ fn step_in(number: usize, row: usize, last: bool, block: &[u8]) -> Result<Option
         let after = next_of(number, row, count, last);
         return Ok(Some((shown, after)));
     }
-    if !last {
-        return Err(Refusal::at(Kind::WrongShape, number));
+    if last && row == count {
+        return Ok(None);
     }
-    if row != count {
-        return Err(Refusal::at(Kind::WrongShape, number));
-    }
-    Ok(None)
+    Err(Refusal::at(Kind::WrongShape, number))
 }
 
 impl Position {
@@ -150,9 +137,8 @@ impl Position {
     {
         let number = self.block;
         let row = self.row;
-        let wrong = wrong_at(number, file);
-        if wrong != 0 {
-            return Err(Refusal::at(wrong, number));
+        if let Some(kind) = wrong_at(number, file) {
+            return Err(Refusal::at(kind, number));
         }
         let start = BLOCK * number;
         let end = start + BLOCK;

@@ -5,53 +5,53 @@ use mathlib.Core.Bool.{Bool, true, false, not, cond}
 use mathlib.Core.Path.{◌≡◌, refl, sym, ap, ◌∙◌}
 use mathlib.Core.Logic.{◌≢◌, ◌⊎◌, inl, inr}
 use mathlib.Core.List.{List}
-use Prim.Native.Nat.{ℕ, suc, ◌-◌, ◌*◌, ◌/◌, ◌^◌, ◌≤◌, ◌<◌}
+use Prim.Native.Nat.{ℕ, suc, ◌-◌, ◌*◌, ◌/◌, ◌^◌, ◌<◌}
 use native.Mathlib.Omega.{arith}
-use lib.Dec.{ltb}
 use lib.ListN.{length}
-use borrow.Author.Tests.{eq-eqb, ne_eqb, ltb-true, ltb-false, lt-ltb}
-use Rattle.refusal.specs.Refusals.{refusal}
-use Rattle.refusal.proofs.Tests.{by_test}
+use borrow.Author.Tests.{eq-eqb, ne_eqb}
+use Rattle.refusal.specs.Refusals.{refusal, unknown_version, wrong_block}
+use Rattle.refusal.specs.declared.Refusal.{Refusal}
+use Rattle.refusal.specs.declared.Kind.{Kind}
 use Rattle.seal.specs.Seal.{is_signed}
-use Rattle.snapshot_blocks.specs.Formats.{Format, Reader, format_of, format_before, version2, per_block}
+use Rattle.snapshot_blocks.specs.Formats.{Format, format_of, format_before, version2, per_block}
 use Rattle.snapshot_blocks.specs.Blocks.{Entry, block_of, version_in, right_in, wrong_in}
 use Rattle.snapshot_blocks.specs.Valid.{Sound, Valid, All}
 use Rattle.snapshot_blocks.specs.Files.{file_from, file_of}
 use Rattle.snapshot_blocks.proofs.Rows.{all_wide}
 use Rattle.snapshot_blocks.proofs.Blocks.{per_block_some, version_in_block_of, intact_block_of}
 use Rattle.snapshot_blocks.proofs.Turns.{version2_sound, format_of_sound}
-use Rattle.snapshot.specs.Snapshot.{block_at, is_place, is_last, follows, wrong_at, step_of, format_at, wrong_by}
+use Rattle.snapshot.specs.Snapshot.{block_at, is_place, is_last, follows, wrong_at, step_of, format_at}
 use Rattle.snapshot.proofs.Turns.{is_place_place, place_is_place}
-use Rattle.snapshot_lists.specs.Lists.{first_wrong, is_room, format_in, read_into}
-use Rattle.snapshot_lists.proofs.Turns.{first_wrong_before, first_wrong_wrong}
+use Rattle.snapshot_lists.specs.Lists.{judged, is_room, format_in, read_into}
+use Rattle.snapshot_lists.proofs.Turns.{stopped_judged}
 use Rattle.snapshot_lists.proofs.Versions.{known_first, same_format}
 use Rattle.snapshot_laws.specs.Reading.{position, ended}
 use Rattle.snapshot_laws.specs.Statements.{VersionsApart, MixedStops, MixedLists, UnknownVersion, UnknownFile, UnknownBefore, ReadersKnow}
 use Rattle.snapshot_laws.proofs.Lists.{all_take, all_drop}
 use Rattle.snapshot_laws.proofs.Lent.{reads_wrong}
 use Rattle.snapshot_laws.proofs.Files.{fit_file_of, chunk, length_chunk_le, length_file_from, block_at_file_from}
-use Rattle.std.specs.Prelude.{Err}
+use Rattle.std.specs.Prelude.{Err, Option, Some, None}
 
 -- ---- after the version all that is wrong is 19
 wrong_in_late : (f : Format) (number : ℕ) (last : Bool) (block : List ℕ) → is_signed block ≡ true → version_in block ≡ f.version
-    → (wrong_in f number last block ≡ 0) ⊎ (wrong_in f number last block ≡ 19)
+    → (wrong_in f number last block ≡ None) ⊎ (wrong_in f number last block ≡ Some wrong_block)
 unfolding wrong_in
 wrong_in_late f number last block i v = rw (i, eq-eqb (version_in block) f.version v) (by (right_in f number last block))
   where
-    by : (right : Bool) → (◌≡◌ {A = ℕ} (cond (not right) 19 0) 0) ⊎ (◌≡◌ {A = ℕ} (cond (not right) 19 0) 19)
+    by : (right : Bool) → (◌≡◌ {A = Option Kind} (cond (not right) (Some wrong_block) None) None) ⊎ (◌≡◌ {A = Option Kind} (cond (not right) (Some wrong_block) None) (Some wrong_block))
     by false = inr refl
     by true = inl refl
 
 wrong_at_apart : (f : Format) (before : ℕ) (file : List ℕ) → is_place (suc before) (length file) ≡ true → is_signed (block_at (suc before) file) ≡ true
-    → version_in (block_at (suc before) file) ≡ f.version → version_in (block_at before file) ≢ f.version → wrong_at f (suc before) file ≡ 19
+    → version_in (block_at (suc before) file) ≡ f.version → version_in (block_at before file) ≢ f.version → wrong_at f (suc before) file ≡ Some wrong_block
 unfolding wrong_at follows
 wrong_at_apart f before file p i v n = by (wrong_in_late f (suc before) (is_last (suc before) file) (block_at (suc before) file) i v)
   where
     e : suc before - 1 ≡ before
     e = omega arith
 
-    by : (wrong_in f (suc before) (is_last (suc before) file) (block_at (suc before) file) ≡ 0) ⊎ (wrong_in f (suc before) (is_last (suc before) file) (block_at (suc before) file) ≡ 19)
-        → wrong_at f (suc before) file ≡ 19
+    by : (wrong_in f (suc before) (is_last (suc before) file) (block_at (suc before) file) ≡ None) ⊎ (wrong_in f (suc before) (is_last (suc before) file) (block_at (suc before) file) ≡ Some wrong_block)
+        → wrong_at f (suc before) file ≡ Some wrong_block
     by (inl w) = rw (p, w, e, ne_eqb (suc before) 0 (λ x. omega arith), ne_eqb (version_in (block_at before file)) f.version n)
     by (inr w) = rw (p, w)
 
@@ -62,43 +62,34 @@ versions_differ reader before row file p i v n =
     rw (wrong_at_apart f before file p i (sym v) (λ e. n (e ∙ v)))
 
 -- ---- reading a file of mixed versions
-first_wrong_is : (reader : Reader) (file : List ℕ) (n bad : ℕ) → bad < n → ((j : ℕ) → j < bad → wrong_by reader j file ≡ 0) → (wrong_by reader bad file ≡ 0 → ⊥)
-    → first_wrong reader file 0 n ≡ bad
-first_wrong_is reader file n bad h g w =
-    let k : ℕ = first_wrong reader file 0 n in
-    let up : k ≤ bad = by_test (ltb bad k)
-    (λ t. absurd (w (first_wrong_before reader file 0 n bad (omega arith) (ltb-true bad k t)))) (λ t. ltb-false bad k t) in
-    let down : bad ≤ k = by_test (ltb k bad)
-    (λ t. let l : k < bad = ltb-true k bad t in absurd (first_wrong_wrong reader file 0 n (omega arith) (g k l))) (λ t. ltb-false k bad t) in
-    omega arith
-
-read_into_refused : (file ids locations carried : List ℕ) (bad : ℕ) → is_place 0 (length file) ≡ true
-    → is_room (format_in file) (length file / 512) (length ids) (length locations) (length carried) ≡ true → first_wrong format_of file 0 (length file / 512) ≡ bad
-    → bad < length file / 512 → (read_into file ids locations carried).answer ≡ Err (refusal (wrong_by format_of bad file) bad)
+read_into_refused : (file ids locations carried : List ℕ) (r : Refusal) → is_place 0 (length file) ≡ true
+    → is_room (format_in file) (length file / 512) (length ids) (length locations) (length carried) ≡ true → judged format_of file 0 (length file / 512) ≡ Err r
+    → (read_into file ids locations carried).answer ≡ Err r
 unfolding read_into
-read_into_refused file ids locations carried bad p r e h = rw (p, r, e, lt-ltb bad (length file / 512) h)
+read_into_refused file ids locations carried r p q e = rw (p, q, e)
 
 pub mixed_stop : MixedStops
 mixed_stop reader sound before file g p i v n =
     let f = format_at reader 0 file in
     let q = is_place_place (suc before) (length file) p in
-    let w : wrong_by reader (suc before) file ≡ 19 = wrong_at_apart (format_at reader (suc before) file) before file p i (sym v) (λ e. n (e ∙ v)) in
+    let w = wrong_at_apart (format_at reader (suc before) file) before file p i (sym v) (λ e. n (e ∙ v)) in
     let first : is_place 0 (length file) ≡ true = place_is_place 0 (length file) q.whole (omega (arith, q.within)) in
-    rw w at (reads_wrong reader f (sound (version_in (block_at 0 file))) file first (suc before) q.within (λ k. known_first reader file (g 0 (omega arith)))
-    (λ j h. same_format reader file j (λ a b. g a (omega arith))) (λ e. omega (arith, w, e)))
+    reads_wrong reader f (sound (version_in (block_at 0 file))) file first (suc before) q.within (λ k. known_first reader file (g 0 (omega arith)))
+    (λ j h. same_format reader file j (λ a b. g a (omega arith))) wrong_block w
 
 pub mixed_list : MixedLists
 mixed_list before file ids locations carried g p i v n room =
     let q = is_place_place (suc before) (length file) p in
-    let w : wrong_by format_of (suc before) file ≡ 19 = wrong_at_apart (format_at format_of (suc before) file) before file p i (sym v) (λ e. n (e ∙ v)) in
+    let w = wrong_at_apart (format_at format_of (suc before) file) before file p i (sym v) (λ e. n (e ∙ v)) in
     let first : is_place 0 (length file) ≡ true = place_is_place 0 (length file) q.whole (omega (arith, q.within)) in
-    let bad : first_wrong format_of file 0 (length file / 512) ≡ suc before =
-    first_wrong_is format_of file (length file / 512) (suc before) q.within (λ j h. g j (omega arith)) (λ e. omega (arith, w, e)) in
-    read_into_refused file ids locations carried (suc before) first room bad q.within ∙ ap (λ (x : ℕ). Err (refusal x (suc before))) w
+    let r = refusal wrong_block (suc before) in
+    let bad = stopped_judged format_of file 0 (length file / 512) r
+    (record { from = omega arith; within = omega (arith, q.within); before = λ j k h. g j (omega arith); wrong = w }) in
+    read_into_refused file ids locations carried r first room bad
 
 -- ---- a version that the reader does not know
 wrong_at_unknown : (f : Format) (number : ℕ) (file : List ℕ) → is_place number (length file) ≡ true → is_signed (block_at number file) ≡ true
-    → version_in (block_at number file) ≢ f.version → wrong_at f number file ≡ 6
+    → version_in (block_at number file) ≢ f.version → wrong_at f number file ≡ Some unknown_version
 unfolding wrong_at wrong_in
 wrong_at_unknown f number file p i n = rw (p, i, ne_eqb (version_in (block_at number file)) f.version n)
 

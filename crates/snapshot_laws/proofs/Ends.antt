@@ -1,13 +1,13 @@
 -- Reading never goes on for ever: from every position in every file the steps stop. A step leads on within its block, which has at most
 -- `per_block` rows, or into the next block. Assumes nothing.
 use mathlib.Core.Bool.{Bool, ◌&&◌}
-use mathlib.Core.Path.{◌≡◌}
+use mathlib.Core.Path.{◌≡◌, refl}
 use mathlib.Core.List.{List, [], ◌∷◌}
 use Prim.Native.Nat.{ℕ, zero, suc, ◌+◌, ◌*◌, ◌/◌, ◌≤◌, ◌<◌}
 use native.Mathlib.Omega.{arith}
 use lib.Dec.{eqb, ltb}
 use lib.ListN.{length}
-use borrow.Author.Tests.{eqb-true, ltb-true}
+use borrow.Author.Tests.{ltb-true}
 use Rattle.refusal.specs.Refusals.{refusal, wrong_shape}
 use Rattle.refusal.specs.declared.Refusal.{Refusal}
 use Rattle.refusal.proofs.Tests.{by_test}
@@ -18,7 +18,8 @@ use Rattle.snapshot.specs.declared.Position.{Position}
 use Rattle.snapshot.specs.Snapshot.{block_at, is_last, next_position, step_in, step_of, format_at, wrong_by, step_by}
 use Rattle.snapshot.proofs.Turns.{is_place_place, wrong_at_good, wrong_at_count}
 use Rattle.snapshot_laws.specs.Reading.{seen_in, position, ended, showed, Ends}
-use Rattle.std.specs.Prelude.{Ok, Err, Some, None}
+use Rattle.std.specs.Prelude.{Ok, Err, Option, Some, None}
+use Rattle.refusal.specs.declared.Kind.{Kind}
 
 module _ (reader : Reader) (file : List ℕ) where
   -- ---- one step
@@ -32,19 +33,25 @@ module _ (reader : Reader) (file : List ℕ) where
   ends_row at to r e q = record { stop = q.stop; rows = seen_in file r ∷ q.rows; reads = showed at to r q.rows e q.reads; final = q.final }
 
   ends_step : (number row : ℕ)
-      → (wrong_by reader number file ≡ 0 → row < count_in (block_at number file) → Ends reader file (next_position number row (count_in (block_at number file)) (is_last number file)))
+      → (wrong_by reader number file ≡ None → row < count_in (block_at number file) → Ends reader file (next_position number row (count_in (block_at number file)) (is_last number file)))
       → Ends reader file (position number row)
   unfolding step_of step_in
-  ends_step number row h =
-      let count : ℕ = count_in (block_at number file) in
-      let last : Bool = is_last number file in
-      by_test (eqb (wrong_by reader number file) 0)
-      (λ p. by_test (ltb row count)
-      (λ q. ends_row (position number row) (next_position number row count last) (row_at (format_at reader number file) (512 * number) row (block_at number file)) (rw (p, q)) (h (eqb-true (wrong_by reader number file) 0 p) (ltb-true row count q)))
-      (λ q. by_test (last && eqb row count)
-      (λ t. ends_end (position number row) (rw (p, q, t)))
-      (λ t. ends_refused (position number row) (refusal wrong_shape number) (rw (p, q, t)))))
-      (λ p. ends_refused (position number row) (refusal (wrong_by reader number file) number) (rw p))
+  ends_step number row h = by (wrong_by reader number file) refl
+    where
+      count : ℕ
+      count = count_in (block_at number file)
+
+      last : Bool
+      last = is_last number file
+
+      by : (w : Option Kind) → wrong_by reader number file ≡ w → Ends reader file (position number row)
+      by (Some kind) p = ends_refused (position number row) (refusal kind number) (rw p)
+      by None p =
+          by_test (ltb row count)
+          (λ q. ends_row (position number row) (next_position number row count last) (row_at (format_at reader number file) (512 * number) row (block_at number file)) (rw (p, q)) (h p (ltb-true row count q)))
+          (λ q. by_test (last && eqb row count)
+          (λ t. ends_end (position number row) (rw (p, q, t)))
+          (λ t. ends_refused (position number row) (refusal wrong_shape number) (rw (p, q, t))))
 
   ends_next_position : (number row count : ℕ) (last : Bool) → Ends reader file (position number (row + 1)) → Ends reader file (position (number + 1) 0) → Ends reader file (next_position number row count last)
   unfolding next_position

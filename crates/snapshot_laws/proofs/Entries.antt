@@ -1,5 +1,6 @@
 -- The rows of a file by their places in it: those of a block that is right stand one after the other, a block before the last has as many as fit one,
 -- and of a file that was written they are the rows that it was written from. Assumes nothing.
+use Rattle.std.specs.Prelude.{None}
 use mathlib.Core.Bool.{true, false}
 use mathlib.Core.Path.{◌≡◌, refl, sym, ap, ◌∙◌}
 use mathlib.Core.List.{List, ◌∷◌, ◌++◌}
@@ -49,7 +50,7 @@ module _ (f : Format) (file : List ℕ) where
       rw (e, ← z) (ap (λ (x : List Entry). entry_at f file p ∷ x) (entries_from_add m n (suc p)))
 
 -- ---- the rows of a block that is right
-module _ (f : Format) (s : Sound f) (file : List ℕ) (j : ℕ) (g : wrong_at f j file ≡ 0) where
+module _ (f : Format) (s : Sound f) (file : List ℕ) (j : ℕ) (g : wrong_at f j file ≡ None) where
   entry_here : (k : ℕ) → k < count_in (block_at j file) → get_or (rows_in_block f (block_at j file)) k none ≡ entry_at f file (per_block f * j + k)
   unfolding rows_in_block entry_at
   entry_here k h =
@@ -85,8 +86,8 @@ module _ (f : Format) (s : Sound f) (file : List ℕ) (j : ℕ) (g : wrong_at f 
       ∙ ap (λ (x : List Entry). x ++ entries_from f file (per_block f * (j + 1)) n) (sym (rows_block ∙ ap (entries_from f file (per_block f * j)) c))
 
 -- ---- what holds of the rows of each block holds of all
-module _ (f : Format) (s : Sound f) (file : List ℕ) (p : is_place 0 (length file) ≡ true) (P : Entry → Type 0) (good : (j : ℕ) → j < length file / 512 → wrong_at f j file ≡ 0)
-    (each : (j : ℕ) → wrong_at f j file ≡ 0 → All P (rows_in_block f (block_at j file))) where
+module _ (f : Format) (s : Sound f) (file : List ℕ) (p : is_place 0 (length file) ≡ true) (P : Entry → Type 0) (good : (j : ℕ) → j < length file / 512 → wrong_at f j file ≡ None)
+    (each : (j : ℕ) → wrong_at f j file ≡ None → All P (rows_in_block f (block_at j file))) where
   abbrev last : ℕ
   last = length file / 512 - 1
 
@@ -97,12 +98,12 @@ module _ (f : Format) (s : Sound f) (file : List ℕ) (p : is_place 0 (length fi
   all_from zero j e =
       let q = is_place_place 0 (length file) p in
       let z : j ≡ last = omega arith in
-      let g : wrong_at f last file ≡ 0 = good last (omega (arith, q.within)) in
+      let g : wrong_at f last file ≡ None = good last (omega (arith, q.within)) in
       let c : per_block f * zero + count ≡ count = omega (arith, mul-zero (per_block f)) in
       rw (z, c, ← (rows_block f s file last g)) (each last g)
   all_from (suc m) j e =
       let q = is_place_place 0 (length file) p in
-      let g : wrong_at f j file ≡ 0 = good j (omega (arith, q.within)) in
+      let g : wrong_at f j file ≡ None = good j (omega (arith, q.within)) in
       let c : per_block f * suc m + count ≡ per_block f + (per_block f * m + count) = omega (arith, mul-suc (per_block f) m) in
       rw (c, rows_full f s file j g (full f file p j (omega (arith, q.within)) g) (per_block f * m + count))
       (all_append P (rows_in_block f (block_at j file)) (entries_from f file (per_block f * (j + 1)) (per_block f * m + count)) (each j g) (all_from m (j + 1) (omega arith)))
@@ -128,7 +129,7 @@ brings_entries_in v (suc n) l h r =
     let k : length (entry_of f l).carried ≡ f.width = length_carried f s l (omega arith) in
     (length_brought (entry_of f l).carried (omega (arith, s.wide)) (format_of_short v (entry_of f l).carried k o.0), brings_entries_in v n (drop w l) d o.1)
 
-pub brings_block : (v : ℕ) (file : List ℕ) (j : ℕ) → wrong_at (format_of v) j file ≡ 0 → All Brings (rows_in_block (format_of v) (block_at j file))
+pub brings_block : (v : ℕ) (file : List ℕ) (j : ℕ) → wrong_at (format_of v) j file ≡ None → All Brings (rows_in_block (format_of v) (block_at j file))
 unfolding rows_in_block
 brings_block v file j g =
     let f = format_of v in

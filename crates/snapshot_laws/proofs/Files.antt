@@ -1,4 +1,5 @@
 -- A written file, block by block, over the format. Assumes nothing.
+use Rattle.std.specs.Prelude.{None}
 use mathlib.Core.Bool.{true}
 use mathlib.Core.Path.{◌≡◌, refl, sym, ap, ◌∙◌}
 use mathlib.Core.List.{List, ◌++◌}
@@ -135,7 +136,7 @@ id_at_rows_in_block f k block h =
 
 -- ---- a written file is right everywhere
 pub right_wrong_at : (f : Format) (number : ℕ) (file : List ℕ) → is_place number (length file) ≡ true → Right f number (is_last number file) (block_at number file)
-    → ((number ≡ 0 → ⊥) → follows f (block_at (number - 1) file) (block_at number file) ≡ true) → wrong_at f number file ≡ 0
+    → ((number ≡ 0 → ⊥) → follows f (block_at (number - 1) file) (block_at number file) ≡ true) → wrong_at f number file ≡ None
 unfolding wrong_at
 right_wrong_at f zero file p r fit = rw (p, right_wrong_in f 0 (is_last 0 file) (block_at 0 file) r)
 right_wrong_at f (suc n) file p r fit =

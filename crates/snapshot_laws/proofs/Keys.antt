@@ -1,5 +1,6 @@
 -- What the reader shows of a row is what the row carries: a row that is not refused has its whole key, and the file has it where the row says. Assumes
 -- nothing.
+use Rattle.std.specs.Prelude.{None}
 use mathlib.Core.Bool.{false}
 use mathlib.Core.Path.{◌≡◌, refl, sym, ap, ◌∙◌}
 use mathlib.Core.List.{List}
@@ -51,7 +52,7 @@ module _ (f : Format) (s : Sound f) (file : List ℕ) (j start : ℕ) (room : st
       let c = get_at_part 8 16 8 row refl (omega arith) (omega (arith, s.wide)) ∙ ap word (sym (first_carried f s row row_length_lem)) in
       rw (← e) (same_shown _ _ refl c refl (key_carried r))
 
-pub seen_rows_in_block : (f : Format) → Sound f → (file : List ℕ) (j k : ℕ) → wrong_at f j file ≡ 0 → k < count_in (block_at j file)
+pub seen_rows_in_block : (f : Format) → Sound f → (file : List ℕ) (j k : ℕ) → wrong_at f j file ≡ None → k < count_in (block_at j file)
     → seen_in file (row_at f (512 * j) k (block_at j file)) ≡ shown_of (get_or (rows_in_block f (block_at j file)) k none)
 unfolding rows_in_block
 seen_rows_in_block f s file j k g h =

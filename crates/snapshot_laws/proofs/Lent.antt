@@ -6,11 +6,11 @@ use mathlib.Core.List.{List, [], ◌++◌, map, append_assoc, append-nil}
 use Prim.Native.Nat.{ℕ, zero, suc, ◌+◌, ◌-◌, ◌*◌, ◌/◌, ◌≤◌, ◌<◌}
 use native.Mathlib.Nat.{mul-suc, mul-zero}
 use native.Mathlib.Omega.{arith}
-use lib.Dec.{ltb}
 use lib.ListN.{length, take, drop, set, length-set, length-drop, length-append, take-append-drop}
 use lib.Seq.{take-suc-set, drop-set-lt, take_at, drop_at, drop-drop, append_snoc}
-use borrow.Author.Tests.{eq-eqb, ne_eqb, ltb-true, ltb-false}
-use Rattle.refusal.specs.Refusals.{refusal}
+use borrow.Author.Tests.{eq-eqb}
+use Rattle.refusal.specs.Refusals.{refusal, wrong_shape}
+use Rattle.refusal.specs.declared.Kind.{Kind}
 use Rattle.refusal.specs.declared.Refusal.{Refusal}
 use Rattle.carried.specs.Carried.{width, put_row}
 use Rattle.carried.proofs.Laws.{put_row_done}
@@ -22,20 +22,22 @@ use Rattle.snapshot_blocks.proofs.Blocks.{per_block_some}
 use Rattle.snapshot_blocks.proofs.Turns.{format_of_sound}
 use Rattle.snapshot.specs.Snapshot.{block_at, is_place, is_last, wrong_at, step_of, wrong_by, step_by}
 use Rattle.snapshot.proofs.Turns.{is_place_place}
-use Rattle.snapshot_lists.specs.Lists.{first_wrong, total, entry_at, ids_from, carried_from, locations_from, is_room, format_in, ReadInto, refusing, read_into}
-use Rattle.snapshot_lists.proofs.Turns.{by_format, knows_format, total_fits, room, first_wrong_before, first_wrong_wrong}
+use Rattle.snapshot_lists.specs.Lists.{judged, read_judged, total, entry_at, ids_from, carried_from, locations_from, is_room, format_in, ReadInto, refusing, read_into}
+use Rattle.snapshot_lists.proofs.Turns.{by_format, knows_format, total_fits, room, judged_stopped}
 use Rattle.snapshot_lists.proofs.Rows.{not_last, full}
 use Rattle.snapshot_lists.proofs.Versions.{known_first, same_format}
 use Rattle.snapshot_laws.specs.Reading.{Shown, shown_of, position, Reads, ended, Knows, brought_by}
 use Rattle.snapshot_laws.specs.Lent.{entries_from, Starts, Lent}
 use Rattle.snapshot_laws.proofs.Steps.{map_append, reads_last, reads_full}
 use Rattle.snapshot_laws.proofs.Entries.{length_entries_from, entries_from_add, rows_block, rows_full, Brings, brings_block, all_total}
-use Rattle.std.specs.Prelude.{Result, Ok, Err, Option, None}
+use Rattle.snapshot_blocks.specs.declared.Row.{Row}
+use Rattle.snapshot.specs.declared.Position.{Position}
+use Rattle.std.specs.Prelude.{⊤, Result, Ok, Err, Option, Some, None}
 
 -- ---- the steps
 module _ (reader : Reader) (f : Format) (s : Sound f) (file : List ℕ) (p : is_place 0 (length file) ≡ true) where
   -- from a block to the block at `to`, and on as it goes there
-  reads_to : (to : ℕ) → to < length file / 512 → (0 < to → Knows reader f) → ((i : ℕ) → i < to → wrong_at f i file ≡ 0) → (stop : Result (Option (Row × Position)) Refusal) (rs : List Shown)
+  reads_to : (to : ℕ) → to < length file / 512 → (0 < to → Knows reader f) → ((i : ℕ) → i < to → wrong_at f i file ≡ None) → (stop : Result (Option (Row × Position)) Refusal) (rs : List Shown)
       → Reads reader file stop (position to 0) rs → (m j : ℕ) → j + m ≡ to
       → Reads reader file stop (position j 0) (map shown_of (entries_from f file (per_block f * j) (per_block f * m)) ++ rs)
   unfolding entries_from
@@ -54,13 +56,13 @@ module _ (reader : Reader) (f : Format) (s : Sound f) (file : List ℕ) (p : is_
       rw (← w) (reads_full f s file j gj reader (known (omega arith)) (not_last f file p j (omega arith)) stop (map shown_of rest ++ rs) i (count_in (block_at j file) - 1) 0 (omega arith))
 
   -- nothing wrong: the steps show every row, and end
-  pub reads_total : Knows reader f → ((i : ℕ) → i < length file / 512 → wrong_at f i file ≡ 0)
+  pub reads_total : Knows reader f → ((i : ℕ) → i < length file / 512 → wrong_at f i file ≡ None)
       → Reads reader file (Ok None) (position 0 0) (map shown_of (entries_from f file 0 (total f file)))
   unfolding total
   reads_total known good =
       let w = is_place_place 0 (length file) p in
       let last : ℕ = length file / 512 - 1 in
-      let g : wrong_at f last file ≡ 0 = good last (omega (arith, w.within)) in
+      let g : wrong_at f last file ≡ None = good last (omega (arith, w.within)) in
       let t : is_last last file ≡ true = eq-eqb (512 * last + 512) (length file) (omega (arith, w.whole, w.within)) in
       let c = count_in (block_at last file) in
       let z : 0 + per_block f * last ≡ per_block f * last = omega arith in
@@ -73,12 +75,12 @@ module _ (reader : Reader) (f : Format) (s : Sound f) (file : List ℕ) (p : is_
       rw e (rw (mul-zero (per_block f)) at all)
 
   -- something wrong in a block: the steps show the rows before it, and refuse with the same number and index
-  pub reads_wrong : (bad : ℕ) → bad < length file / 512 → (0 < bad → Knows reader f) → ((i : ℕ) → i < bad → wrong_at f i file ≡ 0) → (wrong_by reader bad file ≡ 0 → ⊥)
-      → Reads reader file (Err (refusal (wrong_by reader bad file) bad)) (position 0 0) (map shown_of (entries_from f file 0 (per_block f * bad)))
+  pub reads_wrong : (bad : ℕ) → bad < length file / 512 → (0 < bad → Knows reader f) → ((i : ℕ) → i < bad → wrong_at f i file ≡ None) → (kind : Kind) → wrong_by reader bad file ≡ Some kind
+      → Reads reader file (Err (refusal kind bad)) (position 0 0) (map shown_of (entries_from f file 0 (per_block f * bad)))
   unfolding step_of
-  reads_wrong bad h known g w =
-      let e : step_by reader bad 0 file ≡ Err (refusal (wrong_by reader bad file) bad) = rw (ne_eqb (wrong_by reader bad file) 0 w) in
-      let all = reads_to bad h known g (Err (refusal (wrong_by reader bad file) bad)) [] (ended (position bad 0) e) bad 0 (omega arith) in
+  reads_wrong bad h known g kind w =
+      let e : step_by reader bad 0 file ≡ Err (refusal kind bad) = rw w in
+      let all = reads_to bad h known g (Err (refusal kind bad)) [] (ended (position bad 0) e) bad 0 (omega arith) in
       rw (mul-zero (per_block f), append-nil (map shown_of (entries_from f file 0 (per_block f * bad)))) at all
 
 -- ---- what the lent lists hold
@@ -137,35 +139,28 @@ module _ (f : Format) (file : List ℕ) where
       }
 
 -- ---- the whole reading
-abbrev choice : List ℕ → List ℕ → List ℕ → List ℕ → Bool → Bool → Bool → ReadInto
+abbrev choice : List ℕ → List ℕ → List ℕ → List ℕ → Bool → Bool → Result ⊤ Refusal → ReadInto
 choice file ids locations carried a b d =
-    cond (not a) (refusing 1 0 ids locations carried) (cond (not b) (refusing 1 0 ids locations carried)
-    (cond d (refusing (wrong_by format_of (first_wrong format_of file 0 (length file / 512)) file) (first_wrong format_of file 0 (length file / 512)) ids locations carried)
-    (record {
-      answer = Ok (total (format_in file) file);
-      ids = ids_from (format_in file) file 0 (total (format_in file) file) ids;
-      locations = locations_from (format_in file) file 0 (total (format_in file) file) locations;
-      carried = carried_from (format_in file) file 0 (total (format_in file) file) carried;
-    })))
+    cond (not a) (refusing (refusal wrong_shape 0) ids locations carried) (cond (not b) (refusing (refusal wrong_shape 0) ids locations carried)
+    (read_judged d file ids locations carried))
 
 pub read_into_lent : (file ids locations carried : List ℕ) (n : ℕ) → (read_into file ids locations carried).answer ≡ Ok n
-    → (is_place 0 (length file) ≡ true) × (length file / 512 ≤ first_wrong format_of file 0 (length file / 512)) × (n ≡ total (format_in file) file)
+    → (is_place 0 (length file) ≡ true) × (judged format_of file 0 (length file / 512) ≡ Ok tt) × (n ≡ total (format_in file) file)
     × Lent file ids locations carried (read_into file ids locations carried) n
 unfolding read_into
 read_into_lent file ids locations carried n =
     by (is_place 0 (length file)) (is_room (format_in file) (length file / 512) (length ids) (length locations) (length carried))
-    (ltb (first_wrong format_of file 0 (length file / 512)) (length file / 512)) refl refl refl
+    (judged format_of file 0 (length file / 512)) refl refl refl
   where
-    by : (a b d : Bool) → is_place 0 (length file) ≡ a → is_room (format_in file) (length file / 512) (length ids) (length locations) (length carried) ≡ b
-        → ltb (first_wrong format_of file 0 (length file / 512)) (length file / 512) ≡ d
+    by : (a b : Bool) (d : Result ⊤ Refusal) → is_place 0 (length file) ≡ a → is_room (format_in file) (length file / 512) (length ids) (length locations) (length carried) ≡ b
+        → judged format_of file 0 (length file / 512) ≡ d
         → (choice file ids locations carried a b d).answer ≡ Ok n
-        → (is_place 0 (length file) ≡ true) × (length file / 512 ≤ first_wrong format_of file 0 (length file / 512)) × (n ≡ total (format_in file) file)
+        → (is_place 0 (length file) ≡ true) × (judged format_of file 0 (length file / 512) ≡ Ok tt) × (n ≡ total (format_in file) file)
         × Lent file ids locations carried (choice file ids locations carried a b d) n
-    by true true false p q r e =
+    by true true (Ok _) p q h e =
         let f = format_in file in
         let s = format_of_sound (version_in (block_at 0 file)) in
         let m : n ≡ total f file = cc in
-        let h = ltb-false (first_wrong format_of file 0 (length file / 512)) (length file / 512) r in
         let good = by_format file p h in
         let o = room f (length file / 512) (length ids) (length locations) (length carried) q in
         let t = total_fits file p h in
@@ -181,7 +176,7 @@ read_into_lent file ids locations carried n =
         )
     by false b d p q r e = let z : ◌≡◌ {A = ℕ} 0 1 = cc in absurd (omega arith)
     by true false d p q r e = let z : ◌≡◌ {A = ℕ} 0 1 = cc in absurd (omega arith)
-    by true true true p q r e = let z : ◌≡◌ {A = ℕ} 0 1 = cc in absurd (omega arith)
+    by true true (Err _) p q r e = let z : ◌≡◌ {A = ℕ} 0 1 = cc in absurd (omega arith)
 
 -- where it refuses a block, the steps show the rows of the blocks before it, and refuse with the same number and index
 pub read_into_stops : (file ids locations carried : List ℕ) (r : Refusal) → is_place 0 (length file) ≡ true
@@ -189,17 +184,14 @@ pub read_into_stops : (file ids locations carried : List ℕ) (r : Refusal) → 
     → (read_into file ids locations carried).answer ≡ Err r
     → Reads format_of file (Err r) (position 0 0) (map shown_of (entries_from (format_in file) file 0 (per_block (format_in file) * r.index)))
 unfolding read_into
-read_into_stops file ids locations carried r p q e = by (ltb (first_wrong format_of file 0 (length file / 512)) (length file / 512)) refl (rw (p, q) at e)
+read_into_stops file ids locations carried r p q e = by (judged format_of file 0 (length file / 512)) refl (rw (p, q) at e)
   where
-    by : (d : Bool) → ltb (first_wrong format_of file 0 (length file / 512)) (length file / 512) ≡ d → (choice file ids locations carried true true d).answer ≡ Err r
+    by : (d : Result ⊤ Refusal) → judged format_of file 0 (length file / 512) ≡ d → (choice file ids locations carried true true d).answer ≡ Err r
         → Reads format_of file (Err r) (position 0 0) (map shown_of (entries_from (format_in file) file 0 (per_block (format_in file) * r.index)))
-    by true d e =
-        let n : ℕ = length file / 512 in
-        let bad = first_wrong format_of file 0 n in
-        let l : bad < n = ltb-true bad n d in
-        let s : refusal (wrong_by format_of bad file) bad ≡ r = cc in
-        let before : (i : ℕ) → i < bad → wrong_by format_of i file ≡ 0 = λ i k. first_wrong_before format_of file 0 n i (omega arith) k in
-        rw (← s)
-        (reads_wrong format_of (format_in file) (format_of_sound (version_in (block_at 0 file))) file p bad l (λ k. known_first format_of file (before 0 k))
-        (λ i k. same_format format_of file i (λ a b. before a (omega arith))) (first_wrong_wrong format_of file 0 n (omega arith)))
-    by false d e = let z : ◌≡◌ {A = ℕ} 0 1 = cc in absurd (omega arith)
+    by (Err x) d e =
+        let s : x ≡ r = cc in
+        let stopped = judged_stopped format_of file 0 (length file / 512) r (d ∙ ap Err s) in
+        let before : (i : ℕ) → i < r.index → wrong_by format_of i file ≡ None = λ i k. stopped.before i (omega arith) k in
+        reads_wrong format_of (format_in file) (format_of_sound (version_in (block_at 0 file))) file p r.index (omega (arith, stopped.within)) (λ k. known_first format_of file (before 0 k))
+        (λ i k. same_format format_of file i (λ a b. before a (omega arith))) r.kind stopped.wrong
+    by (Ok _) d e = let z : ◌≡◌ {A = ℕ} 0 1 = cc in absurd (omega arith)

@@ -1,5 +1,5 @@
 -- What is read was written: a file that reads to its end is the file of the rows that it shows. Assumes nothing.
-use mathlib.Core.Bool.{Bool, true, false, not, cond, ◌&&◌}
+use mathlib.Core.Bool.{Bool, true, false, cond, ◌&&◌}
 use mathlib.Core.Path.{◌≡◌, refl, sym, ap, subst, ◌∙◌}
 use mathlib.Core.List.{List, map}
 use mathlib.Core.Logic.{◌⊎◌, inl, inr}
@@ -11,7 +11,8 @@ use lib.ListN.{length, take, drop, length-take}
 use borrow.Author.Tests.{eqb-true, eqb-false, eq-eqb, ne_eqb}
 use Rattle.little_endian.specs.LittleEndian.{word, Bytes}
 use Rattle.little_endian.proofs.Laws.{take_bytes, drop_bytes, word_fits}
-use Rattle.refusal.specs.Refusals.{refusal}
+use Rattle.refusal.specs.Refusals.{refusal, wrong_shape}
+use Rattle.refusal.specs.declared.Kind.{Kind}
 use Rattle.snapshot_blocks.specs.Blocks.{Entry, ascending, count_in, number_in, version_in, row_at}
 use Rattle.snapshot_blocks.specs.Formats.{Format, Reader, per_block}
 use Rattle.snapshot_blocks.specs.declared.Row.{Row}
@@ -20,7 +21,7 @@ use Rattle.snapshot_blocks.proofs.Fields.{get_at_part}
 use Rattle.snapshot_blocks.proofs.Blocks.{per_block_some}
 use Rattle.snapshot.specs.declared.Position.{Position}
 use Rattle.snapshot_blocks.specs.Files.{file_from, file_of}
-use Rattle.snapshot.specs.Snapshot.{block_at, is_place, is_last, wrong_at, next_position, step_in, step_of, format_at, wrong_by, step_by}
+use Rattle.snapshot.specs.Snapshot.{block_at, is_place, is_last, unless_wrong, wrong_at, next_position, step_in, step_of, format_at, wrong_by, step_by}
 use Rattle.snapshot.proofs.Turns.{is_place_place, wrong_at_good}
 use Rattle.snapshot_lists.proofs.Turns.{at_or_past}
 use Rattle.snapshot_lists.proofs.Versions.{wrong_at_joined, known_first, same_format}
@@ -35,21 +36,21 @@ use Rattle.refusal.specs.declared.Refusal.{Refusal}
 
 -- ---- a step that refuses nothing stands at a block that is right
 step_good : (f : Format) (number row : ℕ) (file : List ℕ) (s : Result (Option (Row × Position)) Refusal) → step_of f number row file ≡ s → ((r : _) → s ≡ Err r → ⊥)
-    → (wrong_at f number file ≡ 0) × (step_in f number row (is_last number file) (block_at number file) ≡ s)
+    → (wrong_at f number file ≡ None) × (step_in f number row (is_last number file) (block_at number file) ≡ s)
 unfolding step_of
-step_good f number row file s e h = by (eqb (wrong_at f number file) 0) refl e
+step_good f number row file s e h = by (wrong_at f number file) refl e
   where
-    by : (t : Bool) → eqb (wrong_at f number file) 0 ≡ t
-        → cond (not t) (Err (refusal (wrong_at f number file) number)) (step_in f number row (is_last number file) (block_at number file)) ≡ s
-        → (wrong_at f number file ≡ 0) × (step_in f number row (is_last number file) (block_at number file) ≡ s)
-    by true p e = (eqb-true (wrong_at f number file) 0 p, e)
-    by false p e = absurd (h (refusal (wrong_at f number file) number) (sym e))
+    by : (w : Option Kind) → wrong_at f number file ≡ w
+        → unless_wrong w number (step_in f number row (is_last number file) (block_at number file)) ≡ s
+        → (wrong_at f number file ≡ None) × (step_in f number row (is_last number file) (block_at number file) ≡ s)
+    by None p e = (p, e)
+    by (Some kind) p e = absurd (h (refusal kind number) (sym e))
 
 step_in_end : (f : Format) (number row : ℕ) (last : Bool) (block : List ℕ) → step_in f number row last block ≡ (Ok None) → last ≡ true
 unfolding step_in
 step_in_end f number row last block e = by (ltb row (count_in block)) last (eqb row (count_in block)) e
   where
-    by : (a b d : Bool) → cond a (Ok (Some ((row_at f (512 * number) row block), (next_position number row (count_in block) last)))) (cond (b && d) (Ok None) (Err (refusal 1 number))) ≡ (Ok None) → b ≡ true
+    by : (a b d : Bool) → cond {A = Result (Option (Row × Position)) Refusal} a (Ok (Some ((row_at f (512 * number) row block), (next_position number row (count_in block) last)))) (cond (b && d) (Ok None) (Err (refusal wrong_shape number))) ≡ (Ok None) → b ≡ true
     by false true d e = refl
     by true b d e = let z : ◌≡◌ {A = ℕ} 0 1 = cc in absurd (omega arith)
     by false false d e = let z : ◌≡◌ {A = ℕ} 0 1 = cc in absurd (omega arith)
@@ -58,8 +59,10 @@ step_in_row : (f : Format) (number row : ℕ) (last : Bool) (block : List ℕ) (
 unfolding step_in
 step_in_row f number row last block r at e = by (ltb row (count_in block)) (last && eqb row (count_in block)) e
   where
-    by : (a b : Bool) → cond a (Ok (Some ((row_at f (512 * number) row block), (next_position number row (count_in block) last)))) (cond b (Ok None) (Err (refusal 1 number))) ≡ Ok (Some (r, at)) → at ≡ next_position number row (count_in block) last
-    by true b e = cc
+    by : (a b : Bool) → cond {A = Result (Option (Row × Position)) Refusal} a (Ok (Some ((row_at f (512 * number) row block), (next_position number row (count_in block) last)))) (cond b (Ok None) (Err (refusal wrong_shape number))) ≡ Ok (Some (r, at)) → at ≡ next_position number row (count_in block) last
+    by true b e =
+        let pair : ◌≡◌ {A = Row × Position} (row_at f (512 * number) row block, next_position number row (count_in block) last) (r, at) = cc in
+        sym (ap (λ (x : Row × Position). x.1) pair)
     by false true e = let z : ◌≡◌ {A = ℕ} 0 1 = cc in absurd (omega arith)
     by false false e = let z : ◌≡◌ {A = ℕ} 0 1 = cc in absurd (omega arith)
 
@@ -88,7 +91,7 @@ block_le number row to (inr e) = rw e (omega arith)
 
 module _ (reader : Reader) (file : List ℕ) where
   -- ---- every block from the position on is right
-  reads_good : (at : Position) (rs : List Shown) → Reads reader file (Ok None) at rs → (i : ℕ) → at.block ≤ i → i < length file / 512 → wrong_by reader i file ≡ 0
+  reads_good : (at : Position) (rs : List Shown) → Reads reader file (Ok None) at rs → (i : ℕ) → at.block ≤ i → i < length file / 512 → wrong_by reader i file ≡ None
   reads_good _ _ (ended at e) i l h =
       let f = format_at reader at.block file in
       let g = step_good f at.block at.row file (Ok None) e (λ r q. let z : ◌≡◌ {A = ℕ} 0 1 = cc in omega arith) in
@@ -113,12 +116,13 @@ module _ (reader : Reader) (file : List ℕ) where
       let z : ◌≡◌ {A = ℕ} 0 1 = cc in absurd (omega arith)
   reads_same _ _ _ _ p (showed at to r rs e q) (showed at' to' r' ss e' q') =
       let s : step_by reader at.block at.row file ≡ step_by reader at'.block at'.row file = ap (λ (x : Position). step_by reader x.block x.row file) p in
-      let same : r ≡ r' = cc in
-      let there : to ≡ to' = cc in
+      let pair : ◌≡◌ {A = Row × Position} (r, to) (r', to') = cc in
+      let same : r ≡ r' = ap (λ (x : Row × Position). x.0) pair in
+      let there : to ≡ to' = ap (λ (x : Row × Position). x.1) pair in
       let rest : rs ≡ ss = reads_same to to' rs ss there q q' in
       rw (same, rest)
 
-  reads_first : (at : Position) (rs : List Shown) → Reads reader file (Ok None) at rs → wrong_by reader at.block file ≡ 0
+  reads_first : (at : Position) (rs : List Shown) → Reads reader file (Ok None) at rs → wrong_by reader at.block file ≡ None
   reads_first _ _ (ended at e) = (step_good (format_at reader at.block file) at.block at.row file (Ok None) e (λ r q. let z : ◌≡◌ {A = ℕ} 0 1 = cc in omega arith)).0
   reads_first _ _ (showed at to r rs e q) = (step_good (format_at reader at.block file) at.block at.row file (Ok (Some (r, to))) e (λ x p. let z : ◌≡◌ {A = ℕ} 0 1 = cc in omega arith)).0
 
@@ -131,14 +135,14 @@ last_same j left len n = by (eqb j left) refl
     by false p = ne_eqb (512 * j + 512) len (λ e. eqb-false j left p (omega arith))
 
 -- ---- a file whose blocks are right by one format is what writing its rows gives
-module _ (f : Format) (s : Sound f) (file : List ℕ) (b : Bytes file) (p : is_place 0 (length file) ≡ true) (good : (j : ℕ) → j < length file / 512 → wrong_at f j file ≡ 0) where
+module _ (f : Format) (s : Sound f) (file : List ℕ) (b : Bytes file) (p : is_place 0 (length file) ≡ true) (good : (j : ℕ) → j < length file / 512 → wrong_at f j file ≡ None) where
   abbrev pub left : ℕ
   left = length file / 512 - 1
 
   abbrev pub rows : List Entry
   rows = rows_from f left file
 
-  good_to : (j : ℕ) → j ≤ left → wrong_at f j file ≡ 0
+  good_to : (j : ℕ) → j ≤ left → wrong_at f j file ≡ None
   good_to j h = let q = is_place_place 0 (length file) p in good j (omega (arith, q.within))
 
   size : length file ≡ 512 * left + 512
@@ -190,10 +194,10 @@ pub was_written : ReadExactly
 was_written reader sound file b rs q =
     let f = format_at reader 0 file in
     let s = sound (version_in (block_at 0 file)) in
-    let first : wrong_by reader 0 file ≡ 0 = reads_first reader file (position 0 0) rs q in
+    let first : wrong_by reader 0 file ≡ None = reads_first reader file (position 0 0) rs q in
     let p = (wrong_at_good f 0 file first).place in
     let known : Knows reader f = known_first reader file first in
-    let good : (j : ℕ) → j < length file / 512 → wrong_at f j file ≡ 0 = λ j h. same_format reader file j (λ i l. reads_good reader file (position 0 0) rs q i (omega arith) (omega arith)) in
+    let good : (j : ℕ) → j < length file / 512 → wrong_at f j file ≡ None = λ j h. same_format reader file j (λ i l. reads_good reader file (position 0 0) rs q i (omega arith) (omega arith)) in
     record {
       format = f;
       known = known;

@@ -29,13 +29,16 @@ pub map_append : (es fs : List Entry) → map shown_of (es ++ fs) ≡ map shown_
 map_append [] fs = refl
 map_append (e ∷ es) fs = ap (λ (x : List Shown). shown_of e ∷ x) (map_append es fs)
 
+abbrev showing : Row → Position → Result (Option (Row × Position)) Refusal
+showing r next = Ok (Some (r, next))
+
 -- a step shows a row, told by what is seen of it
 pub reads_row : (reader : Reader) (file : List ℕ) (stop : Result (Option (Row × Position)) Refusal) (at next : Position) (r : Row) (x : Shown) (rs : List Shown)
     → step_by reader at.block at.row file ≡ Ok (Some (r, next)) → seen_in file r ≡ x → Reads reader file stop next rs → Reads reader file stop at (x ∷ rs)
 reads_row reader file stop at next r x rs e s q = subst (λ (y : Shown). Reads reader file stop at (y ∷ rs)) s (showed at next r rs e q)
 
 -- ---- a block that is right
-module _ (f : Format) (s : Sound f) (file : List ℕ) (j : ℕ) (g : wrong_at f j file ≡ 0) where
+module _ (f : Format) (s : Sound f) (file : List ℕ) (j : ℕ) (g : wrong_at f j file ≡ None) where
   pub block_length : length (block_at j file) ≡ 512
   block_length = length_block_at j file (wrong_at_end f j file g)
 
@@ -95,7 +98,7 @@ module _ (f : Format) (s : Sound f) (file : List ℕ) (j : ℕ) (g : wrong_at f 
         rw d (ended (position j k) (step_end k (omega arith) t))
     reads_last t (suc m) k e =
         let h : k < count_in (block_at j file) = omega arith in
-        let e₁ = step_row k h ∙ ap ((λ a b. Ok (Some (a, b))) (row_at f (512 * j) k (block_at j file))) (ap (next_position j k (count_in (block_at j file))) t ∙ next_position_last k) in
+        let e₁ = step_row k h ∙ ap (showing (row_at f (512 * j) k (block_at j file))) (ap (next_position j k (count_in (block_at j file))) t ∙ next_position_last k) in
         rw (row_cons k h) (reads_row reader file (Ok None) (position j k) (position j (k + 1)) _ _ _ e₁ (seen k h) (reads_last t m (k + 1) (omega arith)))
 
     -- from a row of a block before the last into the next block
@@ -105,9 +108,9 @@ module _ (f : Format) (s : Sound f) (file : List ℕ) (j : ℕ) (g : wrong_at f 
         let l = length_rows in
         let h : k < count_in (block_at j file) = omega arith in
         let d : drop (k + 1) (rows_in_block f (block_at j file)) ≡ [] = drop_of_length-le (rows_in_block f (block_at j file)) {i = k + 1} (omega arith) in
-        let e₁ = step_row k h ∙ ap ((λ a b. Ok (Some (a, b))) (row_at f (512 * j) k (block_at j file))) (ap (next_position j k (count_in (block_at j file))) t ∙ next_position_block k (omega arith)) in
+        let e₁ = step_row k h ∙ ap (showing (row_at f (512 * j) k (block_at j file))) (ap (next_position j k (count_in (block_at j file))) t ∙ next_position_block k (omega arith)) in
         rw (row_cons k h, d) (reads_row reader file stop (position j k) (position (j + 1) 0) _ _ _ e₁ (seen k h) q)
     reads_full t stop rs q (suc m) k e =
         let h : k < count_in (block_at j file) = omega arith in
-        let e₁ = step_row k h ∙ ap ((λ a b. Ok (Some (a, b))) (row_at f (512 * j) k (block_at j file))) (next_position_same k (is_last j file) (omega arith)) in
+        let e₁ = step_row k h ∙ ap (showing (row_at f (512 * j) k (block_at j file))) (next_position_same k (is_last j file) (omega arith)) in
         rw (row_cons k h) (reads_row reader file stop (position j k) (position j (k + 1)) _ _ _ e₁ (seen k h) (reads_full t stop rs q m (k + 1) (omega arith)))

@@ -6,11 +6,8 @@ use mathlib.Core.List.{List, [], ◌∷◌, map}
 use Prim.Native.Nat.{ℕ, ◌+◌, ◌-◌, ◌*◌, ◌/◌, ◌^◌, ◌≤◌, ◌<◌}
 use native.Mathlib.Nat.{div-le_self}
 use native.Mathlib.Omega.{arith}
-use lib.Dec.{ltb}
 use lib.ListN.{length, take, drop, length-append, length-map}
 use lib.Seq.{take_at}
-use borrow.Author.Tests.{ltb-true}
-use Rattle.refusal.proofs.Tests.{by_test}
 use Rattle.little_endian.specs.LittleEndian.{Bytes}
 use Rattle.carried.specs.Carried.{width}
 use Rattle.keys.specs.Keys.{brought}
@@ -23,8 +20,8 @@ use Rattle.snapshot_blocks.proofs.Blocks.{per_block_some}
 use Rattle.snapshot_blocks.proofs.Turns.{format_of_sound, format_of_short}
 use Rattle.snapshot.specs.Snapshot.{block_at, is_place, wrong_at, wrong_by}
 use Rattle.snapshot.proofs.Turns.{place_is_place}
-use Rattle.snapshot_lists.specs.Lists.{first_wrong, total, is_room, format_in, ReadInto, read_into}
-use Rattle.snapshot_lists.proofs.Turns.{by_format, knows_format, room_is, read_into_rows, first_wrong_wrong}
+use Rattle.snapshot_lists.specs.Lists.{judged, total, is_room, format_in, ReadInto, read_into}
+use Rattle.snapshot_lists.proofs.Turns.{by_format, knows_format, room_is, read_into_rows, right_judged}
 use Rattle.snapshot_lists.proofs.Versions.{known_format}
 use Rattle.snapshot_laws.specs.Reading.{Knows, brought_by}
 use Rattle.snapshot_laws.specs.Lent.{entries_from, Starts, Lent, Holds, Wrote}
@@ -33,7 +30,7 @@ use Rattle.snapshot_laws.proofs.Written.{file_length_lem, good_file_from}
 use Rattle.snapshot_laws.proofs.Entries.{Brings, total_file_from, entries_file_from}
 use Rattle.snapshot_laws.proofs.Read.{left, rows, few, fit_rows, valid_rows, ordered_rows, file_rows_from, file_written}
 use Rattle.snapshot_laws.proofs.Lent.{read_into_lent}
-use Rattle.std.specs.Prelude.{Ok}
+use Rattle.std.specs.Prelude.{Ok, None}
 
 -- ---- a format that this library knows
 knows_sound : (f : Format) → Knows format_of f → Sound f
@@ -95,28 +92,22 @@ module _ (f : Format) (k : Knows format_of f) (es : List Entry) (n : length es <
   unfolding file_of
   length_file_of = file_length_lem f sound blocks few_blocks es fit_es a o
 
-  pub right_file_of : (j : ℕ) → j ≤ blocks → wrong_at f j (file_of f es) ≡ 0
+  pub right_file_of : (j : ℕ) → j ≤ blocks → wrong_at f j (file_of f es) ≡ None
   unfolding file_of
   right_file_of = good_file_from f sound blocks few_blocks es fit_es a o
 
   format_file_of : format_in (file_of f es) ≡ f
   format_file_of = known_format format_of (file_of f es) f 0 k (right_file_of 0 (omega arith))
 
-  right_by : (j : ℕ) → j ≤ blocks → wrong_by format_of j (file_of f es) ≡ 0
+  right_by : (j : ℕ) → j ≤ blocks → wrong_by format_of j (file_of f es) ≡ None
   right_by j h =
       let g = right_file_of j h in
       ap (λ (x : Format). wrong_at x j (file_of f es)) (known_format format_of (file_of f es) f j k g) ∙ g
 
-  none_wrong : ltb (first_wrong format_of (file_of f es) 0 (length (file_of f es) / 512)) (length (file_of f es) / 512) ≡ false
+  none_wrong : judged format_of (file_of f es) 0 (length (file_of f es) / 512) ≡ Ok tt
   none_wrong =
-      let file = file_of f es in
-      let all : ℕ = length file / 512 in
-      let bad : ℕ = first_wrong format_of file 0 all in
-      by_test (ltb bad all)
-      (λ t. let h : bad < all = ltb-true bad all t in
       let l = length_file_of in
-      absurd (first_wrong_wrong format_of file 0 all (omega arith) (right_by bad (omega arith))))
-      (λ t. t)
+      right_judged format_of (file_of f es) 0 (length (file_of f es) / 512) (λ i k h. right_by i (omega arith))
 
   -- the lists need room for whole blocks
   pub read_into_file_of : (ids locations carried : List ℕ) → per_block f * (full_blocks f (length es) + 1) ≤ length ids → length locations ≡ length ids

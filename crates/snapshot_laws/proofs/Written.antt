@@ -1,4 +1,5 @@
 -- A written file is right at every block, over the format. Assumes nothing.
+use Rattle.std.specs.Prelude.{None}
 use mathlib.Core.Bool.{Bool, true, false, ◌||◌}
 use mathlib.Core.Path.{◌≡◌, refl, sym, ap, ◌∙◌}
 use mathlib.Core.List.{List}
@@ -116,7 +117,7 @@ module _ (f : Format) (s : Sound f) (left : ℕ) (big : left < 2 ^ 32) (rows : L
       all (eq-eqb (version_in (block_at i file)) f.version v)
       (lt-ltb (id_at f (per - 1) (block_at i file)) (id_at f 0 (block_at (suc i) file)) (rw (a₁, a₂, ← e₂) (ascending_next rows m n o)))
 
-  pub good_file_from : (j : ℕ) → j ≤ left → wrong_at f j file ≡ 0
+  pub good_file_from : (j : ℕ) → j ≤ left → wrong_at f j file ≡ None
   good_file_from j h =
       let l = file_length_lem in
       right_wrong_at f j file (place_is_place j (length file) (omega arith) (omega arith)) (file_right j h) (follow j h)

@@ -57,7 +57,7 @@ VersionsApart =
 -- fills lists answers this 19 where they have room (mixed_lists)
 abbrev pub MixedStops : Type 0
 MixedStops =
-    (reader : Reader) → ((v : ℕ) → Sound (reader v)) → (before : ℕ) (file : List ℕ) → ((j : ℕ) → j ≤ before → wrong_by reader j file ≡ 0) →
+    (reader : Reader) → ((v : ℕ) → Sound (reader v)) → (before : ℕ) (file : List ℕ) → ((j : ℕ) → j ≤ before → wrong_by reader j file ≡ None) →
     is_place (suc before) (length file) ≡ true → is_signed (block_at (suc before) file) ≡ true →
     (format_at reader (suc before) file).version ≡ version_in (block_at (suc before) file) →
     version_in (block_at before file) ≢ version_in (block_at (suc before) file) →
@@ -66,7 +66,7 @@ MixedStops =
 
 abbrev pub MixedLists : Type 0
 MixedLists =
-    (before : ℕ) (file ids locations carried : List ℕ) → ((j : ℕ) → j ≤ before → wrong_by format_of j file ≡ 0) →
+    (before : ℕ) (file ids locations carried : List ℕ) → ((j : ℕ) → j ≤ before → wrong_by format_of j file ≡ None) →
     is_place (suc before) (length file) ≡ true → is_signed (block_at (suc before) file) ≡ true →
     (format_at format_of (suc before) file).version ≡ version_in (block_at (suc before) file) →
     version_in (block_at before file) ≢ version_in (block_at (suc before) file) →

@@ -1,5 +1,6 @@
 -- What a row carries, from the bytes that it starts: its length, its key, and the form in which a rebuild takes it. A row of a block that is right is not
 -- refused, so that its key stands whole within it. Assumes nothing.
+use Rattle.std.specs.Prelude.{None}
 use mathlib.Core.Bool.{false, cond}
 use mathlib.Core.Path.{◌≡◌, refl, sym, ap, ◌∙◌}
 use mathlib.Core.List.{List, [], ◌∷◌, ◌++◌, append_assoc, append-nil}
@@ -40,7 +41,7 @@ refused_entries_in f (suc n) (suc k) l h r =
     let d : drop (row_length f * k) (drop (row_length f) l) ≡ drop (row_length f * suc k) l = drop-drop (row_length f * k) (row_length f) l ∙ ap (λ (x : ℕ). drop x l) m in
     rw d at (refused_entries_in f n k (drop (row_length f) l) (omega arith) (or_false (f.refuses (entry_of f l).carried) (any_refused f (entries_in f n (drop (row_length f) l))) r).1)
 
-pub refused_not : (f : Format) (file : List ℕ) (j k : ℕ) → wrong_at f j file ≡ 0 → k < count_in (block_at j file)
+pub refused_not : (f : Format) (file : List ℕ) (j k : ℕ) → wrong_at f j file ≡ None → k < count_in (block_at j file)
     → f.refuses (entry_of f (drop (8 + row_length f * k) (block_at j file))).carried ≡ false
 unfolding rows_in_block
 refused_not f file j k g h =

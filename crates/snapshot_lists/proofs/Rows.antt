@@ -1,5 +1,6 @@
 -- The row at p of a file whose blocks are right by the format of the first: which block it is in, that it stands there, and that its key does. Assumes
 -- nothing.
+use Rattle.std.specs.Prelude.{None}
 use mathlib.Core.Bool.{true, false, cond}
 use mathlib.Core.Path.{◌≡◌, refl, sym, ap, ◌∙◌}
 use mathlib.Core.List.{List, [], ◌∷◌}
@@ -27,7 +28,7 @@ module _ (f : Format) (file : List ℕ) (p : is_place 0 (length file) ≡ true) 
   pub not_last : (j : ℕ) → j + 1 < length file / 512 → is_last j file ≡ false
   not_last j h = ne_eqb (512 * j + 512) (length file) (λ e. omega arith)
 
-  pub full : (j : ℕ) → j + 1 < length file / 512 → wrong_at f j file ≡ 0 → count_in (block_at j file) ≡ per_block f
+  pub full : (j : ℕ) → j + 1 < length file / 512 → wrong_at f j file ≡ None → count_in (block_at j file) ≡ per_block f
   unfolding is_count
   full j h g =
       let c : is_count f j false (count_in (block_at j file)) ≡ true = rw (not_last j h) at (wrong_at_good f j file g).right.counted in
@@ -47,7 +48,7 @@ row_part file block start h =
     rw e (sym (drop_take start 512 (drop (512 * block) file) h ∙ ap (take (512 - start)) (drop-drop start (512 * block) file)))
 
 -- ---- the row at p
-module _ (file : List ℕ) (place : is_place 0 (length file) ≡ true) (good : (j : ℕ) → j < length file / 512 → wrong_at (format_in file) j file ≡ 0) (p : ℕ) (h : p < total (format_in file) file) where
+module _ (file : List ℕ) (place : is_place 0 (length file) ≡ true) (good : (j : ℕ) → j < length file / 512 → wrong_at (format_in file) j file ≡ None) (p : ℕ) (h : p < total (format_in file) file) where
   abbrev f : Format
   f = format_in file
 
@@ -66,7 +67,7 @@ module _ (file : List ℕ) (place : is_place 0 (length file) ≡ true) (good : (
   pub most_some : 0 < per_block f
   most_some = per_block_some f sound.narrow
 
-  last_good : wrong_at f last file ≡ 0
+  last_good : wrong_at f last file ≡ None
   last_good = let q = is_place_place 0 (length file) place in good last (omega (arith, q.within))
 
   before_total : p < per_block f * last + count_in (block_at last file)
@@ -83,7 +84,7 @@ module _ (file : List ℕ) (place : is_place 0 (length file) ≡ true) (good : (
   pub row_block : block < length file / 512
   row_block = let q = is_place_place 0 (length file) place in omega (arith, q.within, block_le)
 
-  block_good : wrong_at f block file ≡ 0
+  block_good : wrong_at f block file ≡ None
   block_good = good block row_block
 
   in_last : (j : ℕ) → per_block f * j + k ≡ p → j ≡ last → k < count_in (block_at j file)

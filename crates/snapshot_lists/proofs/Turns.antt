@@ -1,6 +1,6 @@
 -- One turn of each loop over a file. Assumes nothing.
-use mathlib.Core.Bool.{Bool, true, false, cond, ◌&&◌}
-use mathlib.Core.Path.{◌≡◌, refl, ap, ◌∙◌}
+use mathlib.Core.Bool.{true, ◌&&◌}
+use mathlib.Core.Path.{◌≡◌, refl, sym, ap, subst, ◌∙◌}
 use mathlib.Core.List.{List}
 use Prim.Native.Nat.{ℕ, zero, suc, ◌+◌, ◌-◌, ◌*◌, ◌/◌, ◌%◌, ◌≤◌, ◌<◌}
 use native.Mathlib.Numerals.{add-one}
@@ -8,17 +8,20 @@ use native.Mathlib.Nat.{mul-suc}
 use native.Mathlib.Omega.{arith}
 use lib.ListN.{length, set}
 use lib.Dec.{eqb, leb, ltb}
-use borrow.Author.Tests.{eq-eqb, ne_eqb, eqb-true, eqb-false, ltb-true, ltb-false, leb-true, le-leb}
+use borrow.Author.Tests.{eq-eqb, eqb-true, ltb-true, ltb-false, leb-true, le-leb}
 use Rattle.refusal.proofs.Tests.{and_true, both_ways, by_test}
 use Rattle.carried.specs.Carried.{width, put_row}
 use Rattle.keys.specs.Keys.{brought}
 use Rattle.snapshot_blocks.specs.Formats.{Format, Reader, format_of, per_block}
 use Rattle.snapshot_blocks.specs.Blocks.{count_in}
-use Rattle.snapshot.specs.Snapshot.{block_at, wrong_at, wrong_by, is_place}
+use Rattle.snapshot.specs.Snapshot.{block_at, unless_wrong, wrong_at, wrong_by, is_place}
 use Rattle.snapshot.proofs.Turns.{is_place_place, wrong_at_count, wrong_at_few}
 use Rattle.snapshot_lists.proofs.Versions.{known_first, same_format}
-use Rattle.snapshot_lists.specs.Lists.{first_wrong, entry_at, ids_from, carried_from, locations_from, total, is_room, format_in, ReadInto, read_into}
-use Rattle.std.specs.Prelude.{Ok}
+use Rattle.snapshot_lists.specs.Lists.{judged, entry_at, ids_from, carried_from, locations_from, total, is_room, format_in, ReadInto, read_into}
+use Rattle.refusal.specs.Refusals.{refusal}
+use Rattle.refusal.specs.declared.Refusal.{Refusal}
+use Rattle.refusal.specs.declared.Kind.{Kind}
+use Rattle.std.specs.Prelude.{Option, Some, None, Ok, Err}
 
 pub minus_zero : (n : ℕ) → n - 0 ≡ n
 minus_zero n = omega arith
@@ -28,14 +31,14 @@ module _ (file : List ℕ) (i n : ℕ) (h : i < n) where
   left_one : n - i ≡ suc (n - (i + 1))
   left_one = omega arith
 
-  module _ (reader : Reader) (wrong : ℕ) (e : wrong ≡ wrong_by reader i file) where
-    pub first_wrong_turn : wrong ≡ 0 → first_wrong reader file (i + 1) (n - (i + 1)) ≡ first_wrong reader file i (n - i)
-    unfolding first_wrong
-    first_wrong_turn z = rw (left_one, ← e, eq-eqb wrong 0 z, add-one)
+  module _ (reader : Reader) (wrong : Option Kind) (e : wrong ≡ wrong_by reader i file) where
+    pub judged_turn : wrong ≡ None → judged reader file (i + 1) (n - (i + 1)) ≡ judged reader file i (n - i)
+    unfolding judged
+    judged_turn z = rw (left_one, ← e, z, add-one)
 
-    pub first_wrong_here : (wrong ≡ 0 → ⊥) → first_wrong reader file i (n - i) ≡ i
-    unfolding first_wrong
-    first_wrong_here z = rw (left_one, ← e, ne_eqb wrong 0 z)
+    pub judged_here : (kind : Kind) → wrong ≡ Some kind → Err (refusal kind i) ≡ judged reader file i (n - i)
+    unfolding judged
+    judged_here kind z = rw (left_one, ← e, z)
 
   module _ (f : Format) (l : List ℕ) where
     pub ids_turn : (m : List ℕ) → m ≡ set l i (entry_at f file i).id → ids_from f file (i + 1) (n - (i + 1)) m ≡ ids_from f file i (n - i) l
@@ -54,9 +57,9 @@ module _ (file : List ℕ) (i n : ℕ) (h : n ≤ i) where
   left_none : n - i ≡ zero
   left_none = omega arith
 
-  pub first_wrong_done : (reader : Reader) → first_wrong reader file i (n - i) ≡ i
-  unfolding first_wrong
-  first_wrong_done reader = rw left_none
+  pub judged_done : (reader : Reader) → judged reader file i (n - i) ≡ Ok tt
+  unfolding judged
+  judged_done reader = rw left_none
 
   module _ (f : Format) (l : List ℕ) where
     pub ids_done : ids_from f file i (n - i) l ≡ l
@@ -85,32 +88,60 @@ module _ (f : Format) (file : List ℕ) (n : ℕ) (l : List ℕ) where
 pub at_or_past : {P : Type 0} (b i : ℕ) → b ≤ i → (i ≡ b → P) → (b < i → P) → P
 at_or_past b i h f g = by_test (ltb b i) (λ p. g (ltb-true b i p)) (λ p. f (omega (arith, ltb-false b i p)))
 
--- ---- every block before the first wrong one is right
-pub first_wrong_right : (reader : Reader) (file : List ℕ) (number n : ℕ) → first_wrong reader file number n ≡ number + n → (i : ℕ) → number ≤ i → i < number + n → wrong_by reader i file ≡ 0
-unfolding first_wrong
-first_wrong_right reader file number zero e i l h = absurd (omega arith)
-first_wrong_right reader file number (suc n) e i l h = by (eqb (wrong_by reader number file) 0) refl e (λ q k. first_wrong_right reader file (suc number) n q i k (omega arith))
-  where
-    by : (t : Bool) → eqb (wrong_by reader number file) 0 ≡ t → cond t (first_wrong reader file (suc number) n) number ≡ number + suc n
-        → (first_wrong reader file (suc number) n ≡ suc number + n → suc number ≤ i → wrong_by reader i file ≡ 0) → wrong_by reader i file ≡ 0
-    by true p e f = at_or_past number i l (λ s. rw s (eqb-true (wrong_by reader number file) 0 p)) (λ s. f (omega arith) (omega arith))
-    by false p e f = absurd (omega arith)
+-- ---- what a verdict on blocks says
+module _ (reader : Reader) (file : List ℕ) where
+  -- nothing is wrong in any block
+  pub judged_right : (number n : ℕ) → judged reader file number n ≡ Ok tt → (i : ℕ) → number ≤ i → i < number + n → wrong_by reader i file ≡ None
+  unfolding judged
+  judged_right number zero e i l h = absurd (omega arith)
+  judged_right number (suc n) e i l h = by (wrong_by reader number file) refl e (λ q k. judged_right (suc number) n q i k (omega arith))
+    where
+      by : (w : Option Kind) → wrong_by reader number file ≡ w → unless_wrong w number (judged reader file (suc number) n) ≡ Ok tt
+          → (judged reader file (suc number) n ≡ Ok tt → suc number ≤ i → wrong_by reader i file ≡ None) → wrong_by reader i file ≡ None
+      by None p e f = at_or_past number i l (λ s. rw s p) (λ s. f e (omega arith))
+      by (Some kind) p e f = let n : ◌≡◌ {A = ℕ} 0 1 = cc in absurd (omega arith)
 
-pub first_wrong_le : (reader : Reader) (file : List ℕ) (number n : ℕ) → first_wrong reader file number n ≤ number + n
-unfolding first_wrong
-first_wrong_le reader file number zero = omega arith
-first_wrong_le reader file number (suc n) = by (eqb (wrong_by reader number file) 0) (first_wrong_le reader file (suc number) n)
-  where
-    by : (t : Bool) → first_wrong reader file (suc number) n ≤ suc number + n → cond t (first_wrong reader file (suc number) n) number ≤ number + suc n
-    by true h = omega arith
-    by false h = omega arith
+  pub right_judged : (number n : ℕ) → ((i : ℕ) → number ≤ i → i < number + n → wrong_by reader i file ≡ None) → judged reader file number n ≡ Ok tt
+  unfolding judged
+  right_judged number zero g = refl
+  right_judged number (suc n) g = rw (g number (omega arith) (omega arith)) (right_judged (suc number) n (λ i l h. g i (omega arith) (omega arith)))
 
--- nothing is wrong in any block
-pub none_wrong : (reader : Reader) (file : List ℕ) (n : ℕ) → n ≤ first_wrong reader file 0 n → (i : ℕ) → i < n → wrong_by reader i file ≡ 0
-none_wrong reader file n h i l = let m = first_wrong_le reader file 0 n in first_wrong_right reader file 0 n (omega arith) i (omega arith) (omega arith)
+  -- nothing is wrong before the block that is refused, and that is
+  pub record Stopped (number n : ℕ) (r : Refusal) : Type 0 where
+    pub from : number ≤ r.index
+    pub within : r.index < number + n
+    pub before : (i : ℕ) → number ≤ i → i < r.index → wrong_by reader i file ≡ None
+    pub wrong : wrong_by reader r.index file ≡ Some r.kind
+
+  pub judged_stopped : (number n : ℕ) (r : Refusal) → judged reader file number n ≡ Err r → Stopped number n r
+  unfolding judged
+  judged_stopped number zero r e = let n : ◌≡◌ {A = ℕ} 0 1 = cc in absurd (omega arith)
+  judged_stopped number (suc n) r e = by (wrong_by reader number file) refl e (judged_stopped (suc number) n r)
+    where
+      by : (w : Option Kind) → wrong_by reader number file ≡ w → unless_wrong w number (judged reader file (suc number) n) ≡ Err r
+          → (judged reader file (suc number) n ≡ Err r → Stopped (suc number) n r) → Stopped number (suc n) r
+      by None p e f =
+          let s = f e in
+          record {
+            from = omega (arith, s.from);
+            within = omega (arith, s.within);
+            before = λ i l h. at_or_past number i l (λ z. rw z p) (λ z. s.before i (omega arith) h);
+            wrong = s.wrong;
+          }
+      by (Some kind) p e f =
+          let q : refusal kind number ≡ r = cc in
+          subst (Stopped number (suc n)) q (record { from = omega arith; within = omega arith; before = λ i l h. absurd (omega arith); wrong = p })
+
+  pub stopped_judged : (number n : ℕ) (r : Refusal) → Stopped number n r → judged reader file number n ≡ Err r
+  unfolding judged
+  stopped_judged number zero r s = absurd (omega (arith, s.from, s.within))
+  stopped_judged number (suc n) r s =
+      at_or_past number r.index s.from
+      (λ z. rw (rw z at s.wrong) (ap (λ (k : ℕ). Err (refusal r.kind k)) (sym z)))
+      (λ z. rw (s.before number (omega arith) z) (stopped_judged (suc number) n r (record { from = omega arith; within = omega (arith, s.within); before = λ i l h. s.before i (omega arith) h; wrong = s.wrong })))
 
 -- ---- how many rows, and whether they have room
-pub total_le : (f : Format) (file : List ℕ) → is_place 0 (length file) ≡ true → wrong_at f (length file / 512 - 1) file ≡ 0 → total f file ≤ per_block f * (length file / 512)
+pub total_le : (f : Format) (file : List ℕ) → is_place 0 (length file) ≡ true → wrong_at f (length file / 512 - 1) file ≡ None → total f file ≤ per_block f * (length file / 512)
 unfolding total
 total_le f file p g =
     let q = is_place_place 0 (length file) p in
@@ -120,11 +151,11 @@ total_le f file p g =
     omega arith
 
 -- so that all blocks are right by the format of the first, which this library knows
-module _ (file : List ℕ) (p : is_place 0 (length file) ≡ true) (h : length file / 512 ≤ first_wrong format_of file 0 (length file / 512)) where
-  pub by_reader : (i : ℕ) → i < length file / 512 → wrong_by format_of i file ≡ 0
-  by_reader = none_wrong format_of file (length file / 512) h
+module _ (file : List ℕ) (p : is_place 0 (length file) ≡ true) (h : judged format_of file 0 (length file / 512) ≡ Ok tt) where
+  pub by_reader : (i : ℕ) → i < length file / 512 → wrong_by format_of i file ≡ None
+  by_reader i l = judged_right format_of file 0 (length file / 512) h i (omega arith) (omega arith)
 
-  pub by_format : (i : ℕ) → i < length file / 512 → wrong_at (format_in file) i file ≡ 0
+  pub by_format : (i : ℕ) → i < length file / 512 → wrong_at (format_in file) i file ≡ None
   by_format i l = same_format format_of file i (λ k m. by_reader k (omega arith))
 
   pub knows_format : format_of (format_in file).version ≡ format_in file
@@ -157,29 +188,10 @@ eightieth carried ids e =
 
 -- ---- what is taken where nothing is wrong
 pub read_into_rows : (f : Format) (file ids locations carried ids' locations' carried' : List ℕ) (n : ℕ) → f ≡ format_in file → is_place 0 (length file) ≡ true
-    → is_room f (length file / 512) (length ids) (length locations) (length carried) ≡ true → ltb (first_wrong format_of file 0 (length file / 512)) (length file / 512) ≡ false → n ≡ total f file
+    → is_room f (length file / 512) (length ids) (length locations) (length carried) ≡ true → judged format_of file 0 (length file / 512) ≡ Ok tt → n ≡ total f file
     → ids' ≡ ids_from f file 0 n ids → locations' ≡ locations_from f file 0 n locations → carried' ≡ carried_from f file 0 n carried
     → ◌≡◌ {A = ReadInto} (record { answer = Ok n; ids = ids'; locations = locations'; carried = carried' }) (read_into file ids locations carried)
 unfolding read_into
-read_into_rows f file ids locations carried ids' locations' carried' n k p r w e e₁ e₂ e₃ = rw (← k, p, r, w, e₁, e₂, e₃, e)
-
--- ---- the first wrong block: nothing is wrong before it, and something is there
-pub first_wrong_before : (reader : Reader) (file : List ℕ) (number n i : ℕ) → number ≤ i → i < first_wrong reader file number n → wrong_by reader i file ≡ 0
-unfolding first_wrong
-first_wrong_before reader file number zero i l h = absurd (omega arith)
-first_wrong_before reader file number (suc n) i l h = by (eqb (wrong_by reader number file) 0) refl h (λ k q. first_wrong_before reader file (suc number) n i k q)
-  where
-    by : (t : Bool) → eqb (wrong_by reader number file) 0 ≡ t → i < cond t (first_wrong reader file (suc number) n) number
-        → (suc number ≤ i → i < first_wrong reader file (suc number) n → wrong_by reader i file ≡ 0) → wrong_by reader i file ≡ 0
-    by true p h f = at_or_past number i l (λ s. rw s (eqb-true (wrong_by reader number file) 0 p)) (λ s. f (omega arith) h)
-    by false p h f = absurd (omega arith)
-
-pub first_wrong_wrong : (reader : Reader) (file : List ℕ) (number n : ℕ) → first_wrong reader file number n < number + n → wrong_by reader (first_wrong reader file number n) file ≡ 0 → ⊥
-unfolding first_wrong
-first_wrong_wrong reader file number zero h e = omega arith
-first_wrong_wrong reader file number (suc n) h e = by (eqb (wrong_by reader number file) 0) refl h e (first_wrong_wrong reader file (suc number) n)
-  where
-    by : (t : Bool) → eqb (wrong_by reader number file) 0 ≡ t → cond t (first_wrong reader file (suc number) n) number < number + suc n → wrong_by reader (cond t (first_wrong reader file (suc number) n) number) file ≡ 0
-        → (first_wrong reader file (suc number) n < suc number + n → wrong_by reader (first_wrong reader file (suc number) n) file ≡ 0 → ⊥) → ⊥
-    by true p h e f = f (omega arith) e
-    by false p h e f = eqb-false (wrong_by reader number file) 0 p e
+read_into_rows f file ids locations carried ids' locations' carried' n k p r w e e₁ e₂ e₃ =
+    let q : is_room (format_in file) (length file / 512) (length ids) (length locations) (length carried) ≡ true = rw k at r in
+    rw (p, q, w, e₁, e₂, e₃, e, k)

@@ -1,17 +1,17 @@
 -- Requests 2026-01 and 2026-06: a whole snapshot read into lent lists, each block judged once. Assumes nothing.
-use Rattle.std.specs.Prelude.{Bool, not, cond, ◌&&◌, List, ℕ, zero, suc, ◌+◌, ◌-◌, ◌*◌, ◌/◌, ◌%◌, eqb, leb, ltb, length, set, drop, Result, Ok, Err}
+use Rattle.std.specs.Prelude.{Bool, not, cond, ◌&&◌, List, ℕ, zero, suc, ◌+◌, ◌-◌, ◌*◌, ◌/◌, ◌%◌, eqb, leb, length, set, drop, ⊤, Result, Ok, Err}
 use Rattle.refusal.specs.Refusals.{refusal, wrong_shape}
 use Rattle.carried.specs.Carried.{width, put_row}
 use Rattle.keys.specs.Keys.{brought}
 use Rattle.snapshot_blocks.specs.Formats.{Format, Reader, format_of, row_length, per_block}
 use Rattle.snapshot_blocks.specs.Blocks.{Entry, count_in, entry_of}
-use Rattle.snapshot.specs.Snapshot.{block_at, is_place, format_at, wrong_by}
+use Rattle.snapshot.specs.Snapshot.{block_at, is_place, unless_wrong, format_at, wrong_by}
 use Rattle.refusal.specs.declared.Refusal.{Refusal}
 
--- the first of so many blocks, from `number` on, with something wrong; the one after them where there is none
-unfoldable pub first_wrong : Reader → List ℕ → ℕ → ℕ → ℕ
-first_wrong reader file number zero = number
-first_wrong reader file number (suc n) = cond (eqb (wrong_by reader number file) 0) (first_wrong reader file (suc number) n) number
+-- that nothing is wrong with so many blocks from `number` on, or what is wrong with the first that is not right
+unfoldable pub judged : Reader → List ℕ → ℕ → ℕ → Result ⊤ Refusal
+judged reader file number zero = Ok tt
+judged reader file number (suc n) = unless_wrong (wrong_by reader number file) number (judged reader file (suc number) n)
 
 -- ---- the rows of a file whose blocks are right by a format: every block but the last is full
 -- how many there are
@@ -45,25 +45,27 @@ pub record ReadInto : Type 0 where
   pub locations : List ℕ
   pub carried : List ℕ
 
-abbrev pub refusing : ℕ → ℕ → List ℕ → List ℕ → List ℕ → ReadInto
-refusing number index ids locations carried =
-    record { answer = Err (refusal number index); ids = ids; locations = locations; carried = carried }
+abbrev pub refusing : Refusal → List ℕ → List ℕ → List ℕ → ReadInto
+refusing r ids locations carried = record { answer = Err r; ids = ids; locations = locations; carried = carried }
 
 -- the format of a file, by the version that its first block names; the room is asked for by it before the block is judged
 abbrev pub format_in : List ℕ → Format
 format_in file = format_at format_of 0 file
 
--- 1 for the file or the lists; then what is wrong with the first block that is not right; a refusal leaves the lists as they were
-unfoldable pub read_into : List ℕ → List ℕ → List ℕ → List ℕ → ReadInto
-read_into file ids locations carried =
-    cond (not (is_place 0 (length file))) (refusing wrong_shape 0 ids locations carried)
-    (cond (not (is_room (format_in file) (length file / 512) (length ids) (length locations) (length carried))) (refusing wrong_shape 0 ids locations carried)
-    (cond (ltb (first_wrong format_of file 0 (length file / 512)) (length file / 512))
-    (refusing (wrong_by format_of (first_wrong format_of file 0 (length file / 512)) file)
-    (first_wrong format_of file 0 (length file / 512)) ids locations carried)
-    (record {
+-- the rows in the lists where nothing is wrong with the file
+abbrev pub read_judged : Result ⊤ Refusal → List ℕ → List ℕ → List ℕ → List ℕ → ReadInto
+read_judged (Err r) file ids locations carried = refusing r ids locations carried
+read_judged (Ok _) file ids locations carried =
+    record {
       answer = Ok (total (format_in file) file);
       ids = ids_from (format_in file) file 0 (total (format_in file) file) ids;
       locations = locations_from (format_in file) file 0 (total (format_in file) file) locations;
       carried = carried_from (format_in file) file 0 (total (format_in file) file) carried;
-    })))
+    }
+
+-- 1 for the file or the lists; then what is wrong with the first block that is not right; a refusal leaves the lists as they were
+unfoldable pub read_into : List ℕ → List ℕ → List ℕ → List ℕ → ReadInto
+read_into file ids locations carried =
+    cond (not (is_place 0 (length file))) (refusing (refusal wrong_shape 0) ids locations carried)
+    (cond (not (is_room (format_in file) (length file / 512) (length ids) (length locations) (length carried))) (refusing (refusal wrong_shape 0) ids locations carried)
+    (read_judged (judged format_of file 0 (length file / 512)) file ids locations carried))

@@ -1,5 +1,5 @@
 -- The outcome of reading a snapshot into lists: the documents' number, or how many rows there are. Assumes nothing.
-use Rattle.std.specs.Prelude.{[], ◌∷◌, Result, Ok, Err, ℕ}
+use Rattle.std.specs.Prelude.{[], ◌∷◌, Result, ℕ}
 use Rattle.refusal.specs.Outcomes.{Values, outcome_by}
 use Rattle.refusal.specs.declared.Refusal.{Refusal}
 

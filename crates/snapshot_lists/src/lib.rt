@@ -9,7 +9,7 @@
 // blocks of a file that is right are all of the version of the first, which says how wide a row is and how many fit a block.
 #![tactic(auto)]
 
-ghost use Rattle.std.specs.Prelude.{◌++◌, ◌≡◌, true, false, cond, ℕ, ◌+◌, ◌-◌, ◌*◌, ◌/◌, ◌%◌, ◌^◌, ◌≤◌, ◌<◌, ltb, length, set, take, drop, replicate};
+ghost use Rattle.std.specs.Prelude.{◌++◌, ◌≡◌, true, false, cond, None, ℕ, ◌+◌, ◌-◌, ◌*◌, ◌/◌, ◌%◌, ◌^◌, ◌≤◌, ◌<◌, ltb, length, set, take, drop, replicate};
 ghost use Rattle.little_endian.specs.LittleEndian.{bytes_of, get_at};
 ghost use Rattle.carried.specs.Carried.{width, put_row};
 ghost use Rattle.keys.specs.Keys.{brought};
@@ -17,7 +17,7 @@ ghost use Rattle.snapshot_blocks.specs.Formats.{Format, format_of, per_block};
 ghost use Rattle.snapshot_blocks.specs.Blocks.{count_in, entry_of};
 ghost use Rattle.snapshot_blocks.specs.Valid.{Sound};
 ghost use Rattle.snapshot.specs.Snapshot.{block_at, is_place, wrong_at};
-ghost use Rattle.snapshot_lists.specs.Lists.{ReadInto, first_wrong, total, ids_from, carried_from, locations_from, is_room, format_in, read_into};
+ghost use Rattle.snapshot_lists.specs.Lists.{ReadInto, judged, total, ids_from, carried_from, locations_from, is_room, format_in, read_into};
 
 use carried::WIDTH;
 use refusal::{Kind, Refusal};
@@ -33,18 +33,16 @@ const BROUGHT_LENGTH: usize = 8;
 
 const BROUGHT_KEY: usize = 16;
 
-// The first block with something wrong, or as many as there are.
-fn first_wrong(file: &[u8], blocks: usize) -> usize
-    ensures { result ≡ first_wrong format_of file.now 0 blocks }
+// That nothing is wrong with the blocks, or what is wrong with the first that is not right.
+fn judge(file: &[u8], blocks: usize) -> Result<(), Refusal>
+    ensures { result ≡ judged format_of file.now 0 blocks }
 {
-    let mut number = 0;
-    while number < blocks {
-        if snapshot::wrong_at(number, file) != 0 {
-            return number;
+    for number in 0..blocks {
+        if let Some(kind) = snapshot::wrong_at(number, file) {
+            return Err(Refusal::at(kind, number));
         }
-        number += 1;
     }
-    number
+    Ok(())
 }
 
 // How many rows fit a block of the file, and how many bytes each carries, by the first block.
@@ -62,14 +60,6 @@ fn width_of(file: &[u8]) -> usize
     snapshot_blocks::width_in(&file[0..BLOCK])
 }
 
-// The rows of full blocks, and those of the last.
-fn sum_of(most: usize, before: usize, count: usize) -> usize
-    requires { (most ≤ 20) × (before < 2 ^ 55) × (count ≤ 20) }
-    ensures { result ≡ most * before + count }
-{
-    most * before + count
-}
-
 // How many rows there are in a file of blocks.
 fn total_of(file: &[u8], most: usize) -> usize
     requires { (512 ≤ length file.now) × (most ≤ 20) × (count_in (block_at (length file.now / 512 - 1) file.now) ≤ 20) }
@@ -78,8 +68,7 @@ fn total_of(file: &[u8], most: usize) -> usize
     let before = file.len() / BLOCK - 1;
     let start = BLOCK * before;
     let end = start + BLOCK;
-    let count = snapshot_blocks::count_in(&file[start..end]);
-    sum_of(most, before, count)
+    most * before + snapshot_blocks::count_in(&file[start..end])
 }
 
 // How long the key of a row is that carries so many bytes.
@@ -152,39 +141,34 @@ fn take(
     carried: &mut [u8],
 )
     requires { (most ≡ per_block (format_in file.now)) × (wide ≡ (format_in file.now).width) × (is_place 0 (length file.now) ≡ true)
-        × ((j : ℕ) → j < length file.now / 512 → wrong_at (format_in file.now) j file.now ≡ 0) × (n ≡ total (format_in file.now) file.now)
+        × ((j : ℕ) → j < length file.now / 512 → wrong_at (format_in file.now) j file.now ≡ None) × (n ≡ total (format_in file.now) file.now)
         × (n ≤ length ids.old) × (length locations.old ≡ length ids.old) }
     ensures { (ids.new ≡ ids_from (format_in file.now) file.now 0 n ids.old)
         × (locations.new ≡ locations_from (format_in file.now) file.now 0 n locations.old)
         × (carried.new ≡ carried_from (format_in file.now) file.now 0 n carried.old) }
 {
-    let mut p = 0;
-    while p < n {
+    for p in 0..n {
         let row = row_of(file, p, most, wide);
         take_row(row, wide, p, ids, locations, carried);
-        p += 1;
     }
 }
 
 // Whether the lists have room for the rows of so many blocks, of which each has room for `most`.
+#[tactic(auto, using(crate::proofs::Turns::eightieth), unfolding(crate::specs::Lists::is_room))]
 fn is_room(most: usize, blocks: usize, ids: usize, locations: usize, carried: usize) -> bool
     requires { (most ≤ 20) × (blocks < 2 ^ 55) }
     ensures { (f : Format) → per_block f ≡ most → result ≡ is_room f blocks ids locations carried }
 {
-    if ids < most * blocks {
-        return false;
-    }
-    if locations != ids {
-        return false;
-    }
-    if carried % WIDTH != 0 {
-        return false;
-    }
-    carried / WIDTH == ids
+    most * blocks <= ids && locations == ids && carried % WIDTH == 0 && carried / WIDTH == ids
 }
 
 // Reads the whole file into the lists.
-pub fn read(file: &[u8], ids: &mut [u64], locations: &mut [u64], carried: &mut [u8]) -> Result<usize, Refusal>
+pub fn read(
+    file: &[u8],
+    ids: &mut [u64],
+    locations: &mut [u64],
+    carried: &mut [u8],
+) -> Result<usize, Refusal>
     ensures { ◌≡◌ {A = ReadInto}
         (record { answer = result; ids = ids.new; locations = locations.new; carried = carried.new })
         (read_into file.now ids.old locations.old carried.old) }
@@ -197,10 +181,7 @@ pub fn read(file: &[u8], ids: &mut [u64], locations: &mut [u64], carried: &mut [
     if !is_room(most, blocks, ids.len(), locations.len(), carried.len()) {
         return Err(Refusal::of(Kind::WrongShape));
     }
-    let bad = first_wrong(file, blocks);
-    if bad < blocks {
-        return Err(Refusal::at(snapshot::wrong_at(bad, file), bad));
-    }
+    judge(file, blocks)?;
     let n = total_of(file, most);
     take(file, n, most, width_of(file), ids, locations, carried);
     Ok(n)

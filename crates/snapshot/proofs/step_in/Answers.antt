@@ -2,13 +2,14 @@
 use mathlib.Core.Path.{◌∙◌}
 use Prim.Native.Nat.{◌*◌, ◌<◌}
 use native.Mathlib.Omega.{arith}
-use borrow.Author.Tests.{lt-ltb, le-ltb, eq-eqb, ne_eqb, not-true, not-false}
+use borrow.Author.Tests.{lt-ltb, le-ltb, eq-eqb, ne_eqb}
 use Rattle.snapshot_blocks.specs.Formats.{format_of, per_block}
 use Rattle.snapshot_blocks.specs.Blocks.{version_in}
 use Rattle.snapshot_blocks.proofs.Turns.{format_of_few}
 use Rattle.snapshot.specs.Snapshot.{step_in}
 use Rattle.snapshot.proofs.Turns.{key_within, placed_row}
 use Rattle.snapshot.proofs.step_in.Goals as goal
+use Rattle.snapshot.proofs.step_in.Goals.{else-last-via-then-last+else-row-count-2, else-last-via-else-last}
 
 pub placed-shown-requires : goal.placed-shown-requires
 placed-shown-requires c =
@@ -32,22 +33,20 @@ returns-then-row-count c =
     let r = c.placed-shown.ensures ∙ placed_row v a.row a.block.now _ h c.row_at.ensures (512 * a.number) in
     simp (n, ← c.count_in-count.ensures, r, c.next_of-after.ensures)
 
-pub returns-then-not-last : goal.returns-then-not-last
-unfolding step_in
-returns-then-not-last c =
-    let n = rw c.count_in-count.ensures at (le-ltb _ _ c.if-row-count.false) in
-    simp (n, not-true c.args.last c.if-not-last.true-raw, c.at.ensures)
-
 pub returns-then-row-count-2 : goal.returns-then-row-count-2
 unfolding step_in
 returns-then-row-count-2 c =
     let n = rw c.count_in-count.ensures at (le-ltb _ _ c.if-row-count.false) in
-    let m = rw c.count_in-count.ensures at (ne_eqb _ _ c.if-row-count-2.true) in
-    simp (n, not-false c.args.last c.if-not-last.false-raw, m, c.at-then-row-count-2.ensures)
+    let m = rw c.count_in-count.ensures at (eq-eqb _ _ c.if-row-count-2.true) in
+    simp (n, c.if-last.true, m)
 
 pub returns : goal.returns
 unfolding step_in
 returns c =
     let n = rw c.count_in-count.ensures at (le-ltb _ _ c.if-row-count.false) in
-    let m = rw c.count_in-count.ensures at (eq-eqb _ _ c.if-row-count-2.false) in
-    simp (n, not-false c.args.last c.if-not-last.false-raw, m)
+    elim c.else-last.branch [
+      | else-last-via-then-last+else-row-count-2 w ↦
+          let m = rw c.count_in-count.ensures at (ne_eqb _ _ w.if-row-count-2.false) in
+          simp (n, w.if-last.true, m, c.at.ensures)
+      | else-last-via-else-last w ↦ simp (n, w.if-last.false, c.at.ensures)
+    ]

@@ -3,7 +3,8 @@
 use mathlib.Core.Path.{refl, sym, ◌∙◌}
 use native.Mathlib.Nat.{le_trans}
 use native.Mathlib.Omega.{arith}
-use borrow.Author.Tests.{lt-ltb, le-ltb, not-true, not-false}
+use borrow.Author.Tests.{not-true, not-false}
+use Rattle.std.proofs.lemmas.Result.{err_from_is_err_and}
 use Rattle.snapshot_blocks.specs.Blocks.{version_in}
 use Rattle.snapshot_blocks.proofs.Turns.{format_of_few}
 use Rattle.snapshot.specs.Snapshot.{block_at}
@@ -31,19 +32,19 @@ returns-then-not-is_room c =
     let r = sym (c.is_room.ensures (format_in file) (sym c.most_of-most.ensures)) ∙ not-true _ c.if-not-is_room.true-raw in
     simp (sym c.is_place.ensures ∙ not-false _ c.if-not-is_place.false-raw, r, c.of-then-not-is_room.ensures)
 
-pub returns-then-bad-blocks : goal.returns-then-bad-blocks
+pub returns-in_err-judge : goal.returns-in_err-judge
 unfolding read_into
-returns-then-bad-blocks c =
+returns-in_err-judge c =
     let file = c.args.file.now in
     let r = sym (c.is_room.ensures (format_in file) (sym c.most_of-most.ensures)) ∙ not-false _ c.if-not-is_room.false-raw in
-    let w = rw c.first_wrong-bad.ensures at (lt-ltb _ _ c.if-bad-blocks.true) in
-    simp (sym c.is_place.ensures ∙ not-false _ c.if-not-is_place.false-raw, r, w, c.at.ensures, c.wrong_at.ensures, c.first_wrong-bad.ensures)
+    let p = err_from_is_err_and c.from_residual.result c.from_residual.ensures.1 in
+    simp (p.1, p.2, sym c.is_place.ensures ∙ not-false _ c.if-not-is_place.false-raw, r, sym c.judge.ensures ∙ c.in_err-judge.was)
 
 pub total_of-n-requires : goal.total_of-n-requires
 total_of-n-requires c =
     let file = c.args.file.now in
     let p = sym c.is_place.ensures ∙ not-false _ c.if-not-is_place.false-raw in
-    let h = rw c.first_wrong-bad.ensures at c.if-bad-blocks.false in
+    let h = sym c.judge.ensures ∙ c.in_ok-judge.was in
     (omega (arith, place_end _ _ p), rw c.most_of-most.ensures (format_of_few (version_in (block_at 0 file))), last_few file p h)
 
 pub width_of-requires : goal.width_of-requires
@@ -54,7 +55,7 @@ take-requires c =
     let file = c.args.file.now in
     let f = format_in file in
     let p = sym c.is_place.ensures ∙ not-false _ c.if-not-is_place.false-raw in
-    let h = rw c.first_wrong-bad.ensures at c.if-bad-blocks.false in
+    let h = sym c.judge.ensures ∙ c.in_ok-judge.was in
     let m = c.most_of-most.ensures in
     let r = room f _ _ _ _ (sym (c.is_room.ensures f (sym m)) ∙ not-false _ c.if-not-is_room.false-raw) in
     let n = c.total_of-n.ensures f (sym m) in
@@ -67,7 +68,7 @@ returns c =
     let f = format_in file in
     let m = c.most_of-most.ensures in
     let r = sym (c.is_room.ensures f (sym m)) ∙ not-false _ c.if-not-is_room.false-raw in
-    let w = rw c.first_wrong-bad.ensures at (le-ltb _ _ c.if-bad-blocks.false) in
+    let w = sym c.judge.ensures ∙ c.in_ok-judge.was in
     let t = c.take.ensures in
     read_into_rows f file a.ids.now a.locations.now a.carried.now _ _ _ _ refl (sym c.is_place.ensures ∙ not-false _ c.if-not-is_place.false-raw) r w
     (c.total_of-n.ensures f (sym m)) t.0 t.1 t.2

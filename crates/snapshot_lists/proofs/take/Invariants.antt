@@ -10,6 +10,3 @@ invariant-loop-p l =
     × ((ids_from (format_in l.file) l.file l.p (l.n - l.p) l.ids ≡ ids_from (format_in l.file) l.file 0 l.n l.initial.ids)
     × (locations_from (format_in l.file) l.file l.p (l.n - l.p) l.locations ≡ locations_from (format_in l.file) l.file 0 l.n l.initial.locations)
     × (carried_from (format_in l.file) l.file l.p (l.n - l.p) l.carried ≡ carried_from (format_in l.file) l.file 0 l.n l.initial.carried))
-
-abbrev pub decreases-loop-p : goal.decreases-loop-p
-decreases-loop-p l = l.n - l.p
