@@ -23,9 +23,8 @@ use Rattle.model.specs.Memory.{Memory, kept_ids_at, kept_locations_at, batch_wor
 use Rattle.model.specs.Batches.{bad_row, abandon_rows, commit_rows}
 use Rattle.model.proofs.Verdicts.{test_ok, then_ok}
 use Rattle.model.proofs.Locations.{is_location_says, is_location_nz}
-use Rattle.batch_kept.specs.Kept.{count_by, count_of, rows_then, rows_as, rows_before, kept_from, no_address, bad_kept, first_bad, by_address, kept_row}
-use Rattle.std.specs.Prelude.{Result, Ok, Err, Option, Some, None}
-use Rattle.address.specs.declared.SlabAddress.{SlabAddress}
+use Rattle.batch_kept.specs.Kept.{count_by, count_of, rows_then, rows_as, rows_before, kept_from, bad_kept, first_bad, by_address, kept_row}
+use Rattle.std.specs.Prelude.{Result, Ok, Err, is_err}
 
 -- ---- rows
 pairs_from : (b : List ℕ) (n i : ℕ) → length b ≡ batch_words → i + n ≤ most_updates → pairs n (drop i (take most_updates (drop kept_ids_at b))) (drop i (drop kept_locations_at b)) ≡ kept_from b n i
@@ -124,11 +123,11 @@ pub rows_as_count : (v : Verdict) (p n : ℕ) → rows_as v p ≡ Ok n → (v �
 rows_as_count ok p n e = let q : p ≡ n = cc in (refl, sym q)
 rows_as_count (refuse k i) p n e = let z : ◌≡◌ {A = ℕ} 0 1 = cc in absurd (omega arith)
 
-pub rows_as_refused : (v : Verdict) (p : ℕ) (r : Refusal) → rows_as v p ≡ Err r → v ≡ refuse r.number r.index
+pub rows_as_refused : (v : Verdict) (p : ℕ) (r : Refusal) → rows_as v p ≡ Err r → v ≡ refuse r.kind r.index
 rows_as_refused ok p r e = let z : ◌≡◌ {A = ℕ} 0 1 = cc in absurd (omega arith)
 rows_as_refused (refuse k i) p r e =
     let q : refusal k i ≡ r = cc in
-    ap (λ (x : Refusal). refuse x.number x.index) q
+    ap (λ (x : Refusal). refuse x.kind x.index) q
 
 -- ---- the first bad row, of two tests: the earlier of the two first ones
 
@@ -187,9 +186,9 @@ module _ (cap l : ℕ) (ok : bad_slots cap ≡ false) where
       simp (ok, z, h) (ap (λ x. f x (l % unit)) (sym e)))
       (λ h. by_test (eqb l 0) (λ z. simp (ok, z, h)) (λ z. simp (ok, z, h)))
 
-  no_address_is : no_address (unpacked cap l) ≡ not (eqb l 0 || is_location cap l)
+  is_err_unpacked : is_err (unpacked cap l) ≡ not (eqb l 0 || is_location cap l)
   unfolding unpacked
-  no_address_is = by_test (eqb l 0) (λ z. simp (ok, z)) (λ z. by_test (is_location cap l) (λ h. simp (ok, z, h)) (λ h. simp (ok, z, h)))
+  is_err_unpacked = by_test (eqb l 0) (λ z. simp (ok, z)) (λ z. by_test (is_location cap l) (λ h. simp (ok, z, h)) (λ h. simp (ok, z, h)))
 
 not_and : (a b : Bool) → not (a && b) ≡ (not a || not b)
 not_and true b = refl
@@ -198,10 +197,4 @@ not_and false b = refl
 pub bad_row_read : (m : Memory) (r : Row) → bad_slots m.slots ≡ false → bad_row (read m) r ≡ bad_kept m.ids m.slots r.0 r.1
 unfolding bad_kept read
 bad_row_read m r c =
-    rw (no_address_is m.slots r.1 c) (not_and (ltb 0 r.0 && ltb r.0 m.ids) (eqb r.1 0 || is_location m.slots r.1))
-
--- what an `if let` on an unpacked location tells where it is not refused
-pub not_refused : (u : Result (Option SlabAddress) Refusal) → ((r : Refusal) → u ≡ Err r → ⊥) → no_address u ≡ false
-not_refused (Ok (Some a)) k = refl
-not_refused (Ok None) k = refl
-not_refused (Err r) k = absurd (k r refl)
+    rw (is_err_unpacked m.slots r.1 c) (not_and (ltb 0 r.0 && ltb r.0 m.ids) (eqb r.1 0 || is_location m.slots r.1))

@@ -8,15 +8,24 @@ use native.Mathlib.Omega.{arith}
 use lib.Dec.{eqb}
 use lib.ListN.{length, get_or, set, take, drop, replicate, drop_of_length-le, length-set}
 use lib.Seq.{drop-cons}
-use borrow.Author.Tests.{eqb-true, eq-eqb, ne_eqb}
+use borrow.Author.Tests.{eqb-true}
 use Rattle.refusal.specs.Refusals.{refusal, out_of_range}
 use Rattle.address.specs.Address.{bad_slots, unit, is_location, unpacked}
 use Rattle.model.specs.Store.{Row}
 use Rattle.model.specs.Rebuild.{rows_of}
-use Rattle.rebuild_rows.specs.Checks.{wrong, is_at, wrong_in, first_wrong, groups, group_of, bit_of, with_bit, marked, repeats_at, marked_by, repeat_in, repeats_from}
-use Rattle.std.specs.Prelude.{Ok, Err, Some, None}
+use Rattle.rebuild_rows.specs.Checks.{wrong_in, wrong_or, first_wrong, groups, group_of, bit_of, with_bit, marked, repeats_at, marked_by, repeat_in, repeats_from}
+use Rattle.refusal.specs.declared.Refusal.{Refusal}
+use Rattle.refusal.specs.declared.Kind.{Kind}
+use Rattle.address.specs.declared.SlabAddress.{SlabAddress}
+use Rattle.std.specs.Prelude.{Result, Ok, Err, Option, Some, None, ⊤}
 
 -- ---- unpacking tells locations
+
+-- whether there is an address
+abbrev pub is_at : Result (Option SlabAddress) Refusal → Bool
+is_at (Ok (Some a)) = true
+is_at (Ok None) = false
+is_at (Err r) = false
 
 pub is_at_unpacked : (slots l : ℕ) → bad_slots slots ≡ false → is_at (unpacked slots l) ≡ is_location slots l
 unfolding unpacked
@@ -27,6 +36,11 @@ is_at_unpacked slots l b = rw b (go (eqb l 0) refl (is_location slots l) refl)
     go true e v f = let q : l ≡ 0 = eqb-true l 0 e in ap (is_location slots) (sym q) ∙ f
     go false e true f = refl
     go false e false f = refl
+
+pub at_none : (u : Result (Option SlabAddress) Refusal) → ((a : SlabAddress) → u ≡ Ok (Some a) → ⊥) → is_at u ≡ false
+at_none (Ok (Some a)) n = absurd (n a refl)
+at_none (Ok None) n = refl
+at_none (Err r) n = refl
 
 -- ---- rows that are left
 
@@ -46,19 +60,27 @@ rest_end is ls i h = ap (λ x. rows_of x (drop i ls)) (drop_of_length-le is h)
 
 module _ (ids slots : ℕ) (seen is ls : List ℕ) (i : ℕ) (h : i < length is) (e : length ls ≡ length is) where
   first_wrong_turn : first_wrong ids slots seen i (rest is ls i)
-      ≡ cond (eqb (wrong_in ids slots seen (get_or is i 0) (get_or ls i 0)) 0) (first_wrong ids slots (set seen (get_or is i 0) 1) (i + 1) (rest is ls (i + 1)))
-      (wrong i (wrong_in ids slots seen (get_or is i 0) (get_or ls i 0)))
+      ≡ wrong_or (wrong_in ids slots seen (get_or is i 0) (get_or ls i 0)) i (first_wrong ids slots (set seen (get_or is i 0) 1) (i + 1) (rest is ls (i + 1)))
   unfolding first_wrong
   first_wrong_turn = ap (first_wrong ids slots seen i) (rest_turn is ls i h e)
 
-  pub first_wrong_here : {n : ℕ} → n ≡ wrong_in ids slots seen (get_or is i 0) (get_or ls i 0) → (n ≡ 0 → ⊥) → first_wrong ids slots seen i (rest is ls i) ≡ wrong i n
-  first_wrong_here {n} q z = first_wrong_turn ∙ rw (← q, ne_eqb n 0 z)
+  -- what is said where this row is wrong in a way, or in none
+  abbrev told : Option Kind → Result ⊤ Refusal
+  told o = wrong_or o i (first_wrong ids slots (set seen (get_or is i 0) 1) (i + 1) (rest is ls (i + 1)))
 
-  pub first_wrong_next : {n : ℕ} → n ≡ wrong_in ids slots seen (get_or is i 0) (get_or ls i 0) → n ≡ 0
+  pub first_wrong_here : {o : Option Kind} {k : Kind} → o ≡ wrong_in ids slots seen (get_or is i 0) (get_or ls i 0) → o ≡ Some k
+      → first_wrong ids slots seen i (rest is ls i) ≡ Err (refusal k i)
+  first_wrong_here q z = first_wrong_turn ∙ ap told (sym q ∙ z)
+
+  pub first_wrong_next : {o : Option Kind} → o ≡ wrong_in ids slots seen (get_or is i 0) (get_or ls i 0) → ((k : Kind) → o ≡ Some k → ⊥)
       → first_wrong ids slots seen i (rest is ls i) ≡ first_wrong ids slots (set seen (get_or is i 0) 1) (i + 1) (rest is ls (i + 1))
-  first_wrong_next {n} q z = first_wrong_turn ∙ rw (← q, eq-eqb n 0 z)
+  first_wrong_next {o} q n = first_wrong_turn ∙ ap told (sym q) ∙ go o n
+    where
+      go : (o : Option Kind) → ((k : Kind) → o ≡ Some k → ⊥) → told o ≡ told None
+      go None n = refl
+      go (Some k) n = absurd (n k refl)
 
-pub first_wrong_end : (ids slots : ℕ) (seen is ls : List ℕ) (i : ℕ) → length is ≤ i → first_wrong ids slots seen i (rest is ls i) ≡ wrong i 0
+pub first_wrong_end : (ids slots : ℕ) (seen is ls : List ℕ) (i : ℕ) → length is ≤ i → first_wrong ids slots seen i (rest is ls i) ≡ Ok tt
 unfolding first_wrong
 first_wrong_end ids slots seen is ls i h = ap (first_wrong ids slots seen i) (rest_end is ls i h)
 
