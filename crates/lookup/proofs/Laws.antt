@@ -48,13 +48,13 @@ held_in_lt ids marks words i e =
 
 located_as_location : (v : Verdict) (p l : ℕ) → located_as v p ≡ Ok l → (v ≡ ok) × (l ≡ p)
 located_as_location ok p l e = let q : p ≡ l = cc in (refl, sym q)
-located_as_location (refuse k i) p l e = let z : ◌≡◌ {A = ℕ} 0 1 = cc in absurd (omega arith)
+located_as_location (refuse k i) p l e = (cc, cc)
 
-located_as_refused : (v : Verdict) (p : ℕ) (r : Refusal) → located_as v p ≡ Err r → v ≡ refuse r.number r.index
-located_as_refused ok p r e = let z : ◌≡◌ {A = ℕ} 0 1 = cc in absurd (omega arith)
+located_as_refused : (v : Verdict) (p : ℕ) (r : Refusal) → located_as v p ≡ Err r → v ≡ refuse r.kind r.index
+located_as_refused ok p r e = cc
 located_as_refused (refuse k i) p r e =
     let q : refusal k i ≡ r = cc in
-    ap (λ (x : Refusal). refuse x.number x.index) q
+    ap (λ (x : Refusal). refuse x.kind x.index) q
 
 -- ---- one id, by what its location unpacks to
 module _ (ids slots : ℕ) (id_marks locations slot_marks owners words : List ℕ) (i : ℕ) where
@@ -166,7 +166,7 @@ module _ (m : Memory) (i : ℕ) (row : List ℕ) where
 
   module _ (f : Fits) (looked : Result ℕ Refusal) (e : looked ≡ located_as Said (get_or m.locations i 0)) where
     pub answers_refused : (r : Refusal) → looked ≡ Err r → Answers (Err r) row
-    answers_refused r q = refused_leaves r.number r.index (lookup_rest f ∙ located_as_refused Said _ r (sym e ∙ q))
+    answers_refused r q = refused_leaves r.kind r.index (lookup_rest f ∙ located_as_refused Said _ r (sym e ∙ q))
 
     granted_answer : Said ≡ ok → answer (read m) asked ≡ granted (found (get_or m.locations i 0) (part width m.carried i))
     unfolding answer grant reply read

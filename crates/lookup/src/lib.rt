@@ -4,7 +4,7 @@
 //     let mut row = [0u8; carried::WIDTH];
 //     match lookup::get_location_for_object(caps, &id_marks, &locations, &slot_marks, &owners, &tallies, &carried, id, &mut row) {
 //         Ok(location) => ..,  // packed, and not 0; row has what the id's row carries
-//         Err(refusal) => ..,    // 1; 8, no such id, or none stored under it; 13, the tables contradict each other; row is as it was
+//         Err(refusal) => ..,  // 1; 8, no such id, or none stored under it; 13, the tables contradict each other; row is as it was
 //     }
 //
 // No table is written, and an open batch does not matter: what it stores is seen once it is committed.
@@ -46,8 +46,8 @@ fn fits(
     )
 }
 
-// The number that a location without an address is refused with: zero means no object, and any other number is out of range.
-pub fn without_address(location: u64) -> u8
+// Why a location without an address is refused: zero means no object, and any other number is out of range.
+pub fn without_address(location: u64) -> Kind
     ensures { result ≡ cond (eqb location 0) no_such_id tables_disagree }
 {
     if location == 0 {
@@ -58,6 +58,7 @@ pub fn without_address(location: u64) -> u8
 }
 
 // The id's location, or why it is not told.
+#[tactic(auto, using(crate::proofs::Laws::held_in_lt))]
 fn locate(
     caps: Capacities,
     id_marks: &[u8],
@@ -131,11 +132,7 @@ pub fn get_location_for_object(
     ) {
         return Err(Refusal::of(Kind::WrongShape));
     }
-    match locate(caps, id_marks, locations, slot_marks, owners, tallies, id) {
-        Err(refusal) => Err(refusal),
-        Ok(location) => {
-            carried::put_row(row, 0, carried::row(carried, id as usize));
-            Ok(location)
-        }
-    }
+    let location = locate(caps, id_marks, locations, slot_marks, owners, tallies, id)?;
+    carried::put_row(row, 0, carried::row(carried, id as usize));
+    Ok(location)
 }
