@@ -1,15 +1,15 @@
 // Settings cookies.
-use refusal::Refusal;
 use crate::say::{Hex, Refused};
+use refusal::Refusal;
 use settings::PersistentSettings;
 use std::io;
 
 const LENGTH: usize = 64;
 
-fn say_read(rt: &impl Print, s: PersistentSettings) -> io::Result<()> {
+fn say_read(rt: &impl Print, s: Result<PersistentSettings, Refusal>) -> io::Result<()> {
     match s {
-        PersistentSettings::V1 { leaf_fanout } => print!(rt; " {leaf_fanout}"),
-        PersistentSettings::Refused(r) => print!(rt; " {}", Refused(r)),
+        Ok(settings) => print!(rt; " {}", settings.leaf_fanout()),
+        Err(r) => print!(rt; " {}", Refused(r)),
     }
 }
 

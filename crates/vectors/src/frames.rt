@@ -1,8 +1,8 @@
 // Frames: document 01's three bytes in a slot of 64, the edges of each width of the length field, damaged slots, and slots with rubbish
 // between object and frame.
-use refusal::Refusal;
 use crate::say::{Hex, Refused};
 use frame::Slab;
+use refusal::Refusal;
 use std::alloc::{AllocError, Global};
 use std::io;
 

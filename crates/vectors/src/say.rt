@@ -21,6 +21,6 @@ impl fmt::Display for Hex<'_> {
 
 impl fmt::Display for Refused {
     fn fmt<W: fmt::Write>(&self, f: &mut fmt::Formatter<W>) -> fmt::Result {
-        write!(f, "refused {} {}", self.0.number, self.0.index)
+        write!(f, "refused {} {}", self.0.kind.number(), self.0.index)
     }
 }

@@ -124,7 +124,7 @@ pub fn say_block(rt: &impl Print, refusal: Refusal) -> io::Result<()> {
 }
 
 pub fn say_row(rt: &impl Print, refusal: Refusal) -> io::Result<()> {
-    let why = match refusal.number {
+    let why = match refusal.kind {
         Kind::NoSuchId =>
             "its id is 0, or above 16383, the largest that this program takes; the Rust crate's example why takes any store",
         Kind::OutOfRange =>
