@@ -83,10 +83,10 @@ place_or_all p xs n e = go (cases_lt (position_or_len p xs) (length xs)) (prefix
     go (inr h) f = rw (le-ltb (position_or_len p xs) (length xs) h) (omega (arith, e, f, h))
 
 -- ---- a row written over zeros: the collection, the length, and then the key
-pub normal_written : (row first key : List ℕ) (n a : ℕ) → length row ≡ width → n ≡ kept_length row → first ≡ take 8 row → key ≡ take (16 + n - 16) (drop 16 row) → a ≡ n
-    → put_mid 9 a (set (first ++ replicate 72 0) 8 n) key ≡ normal row
+pub normal_written : (row kept first key : List ℕ) (n a : ℕ) → kept ≡ replicate width 0 → length row ≡ width → n ≡ kept_length row → first ≡ take 8 row → key ≡ take (16 + n - 16) (drop 16 row) → a ≡ n
+    → put_mid 9 a (set (first ++ drop 8 kept) 8 n) key ≡ normal row
 unfolding normal
-normal_written row first key n a l k f g e =
+normal_written row kept first key n a z l k f g e =
     let p = take 8 row in
     let zeros = replicate {A = ℕ} 71 0 in
     let lp : length p ≡ 8 = length-take-le 8 row (omega arith) in
@@ -96,7 +96,8 @@ normal_written row first key n a l k f g e =
     let first_two : set (first ++ (0 ∷ zeros)) 8 n ≡ (p ++ (n ∷ [])) ++ (take n zeros ++ drop n zeros) =
     ap (λ x. set (x ++ (0 ∷ zeros)) 8 n) f ∙ set_at p 0 zeros n 8 lp ∙ sym (append_snoc p n zeros)
     ∙ ap (λ x. (p ++ (n ∷ [])) ++ x) (sym (take-append-drop n zeros)) in
-    ap (λ x. put_mid 9 x (set (first ++ (0 ∷ zeros)) 8 n) key) e
+    ap (λ x. put_mid 9 a (set (first ++ drop 8 x) 8 n) key) z
+    ∙ ap (λ x. put_mid 9 x (set (first ++ (0 ∷ zeros)) 8 n) key) e
     ∙ ap (λ x. put_mid 9 n x key) first_two
     ∙ put_middle (p ++ (n ∷ [])) (take n zeros) (drop n zeros) key 9 n lq lz
     ∙ append_snoc p n (key ++ drop n zeros)

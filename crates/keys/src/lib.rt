@@ -89,25 +89,27 @@ fn kept_length(row: &[u8; WIDTH]) -> usize
     said.min(MOST_KEY as u64) as usize
 }
 
-// A row as it is kept.
-fn normal(row: &[u8; WIDTH]) -> [u8; WIDTH]
-    ensures { result ≡ normal row.now }
+// A row as it is kept, written over zeros.
+fn write_kept(kept: &mut [u8; WIDTH], row: &[u8; WIDTH])
+    requires { kept.old ≡ replicate width 0 }
+    ensures { kept.new ≡ normal row.now }
 {
     let length = kept_length(row);
     let end = BROUGHT_KEY + length;
     let key = &row[BROUGHT_KEY..end];
-    let mut kept = [0u8; WIDTH];
     kept[..LENGTH].copy_from_slice(&row[..LENGTH]);
     kept[LENGTH] = length as u8;
     kept[KEPT_KEY..KEPT_KEY + key.len()].copy_from_slice(key);
-    kept
 }
 
 // Keeps one row as row `index`: of one that is not stored zeros.
 fn keep_row(column: &mut [u8], index: usize, store: bool, row: &[u8; WIDTH])
     ensures { column.new ≡ put_row width column.old index (normal_of store row.now) }
 {
-    let kept = if store { normal(row) } else { [0; WIDTH] };
+    let mut kept = [0u8; WIDTH];
+    if store {
+        write_kept(&mut kept, row);
+    }
     carried::put_row(column, index, &kept);
 }
 
