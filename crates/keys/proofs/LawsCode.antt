@@ -14,24 +14,31 @@ use borrow.Rule.Slice.PartMut.{put_mid}
 use native.Mathlib.Decide.{dec_lt}
 use lib.ListN.{take-append-drop}
 use borrow.Author.Tests.{lt-ltb, le-ltb}
-use Rattle.std.specs.List.{position, position_or_len, prefix_len, zip}
+use Rattle.std.specs.List.{position, position_or_len, prefix_len}
 use Rattle.std.specs.Option.{unwrap_or}
 use Rattle.std.proofs.lemmas.Bool.{cases_lt}
 use mathlib.Core.Logic.{◌⊎◌, inl, inr}
 use Rattle.std.specs.Simd.{first_chunks}
 use Rattle.list_parts.specs.Parts.{part}
+use Rattle.list_parts.proofs.Parts.{length_chunks, chunk_at}
 use Rattle.list_parts.proofs.Ranges.{put_middle}
 use Rattle.carried.proofs.Each.{drop_zeros}
 use Rattle.carried.proofs.Laws.{put_row_none}
 use Prim.Native.Nat.{◌^◌, min}
 use Rattle.carried.specs.Carried.{width, put_row, put_rows, up_from}
-use Rattle.keys.specs.Keys.{key_is_long, kept_length, normal, normal_of, long_in, normal_rows, is_store, all_stored, stores_of, first_met}
+use Rattle.keys.specs.Keys.{key_is_long, kept_length, normal, normal_of, long_in, normal_rows, is_store, all_stored, first_met}
 use Rattle.keys.proofs.Laws.{length_normal_of, all_stored_replicate}
 
 -- ---- the rows from row i on: the first, and the others
 
 next_rows : (rows : List ℕ) (i : ℕ) → drop width (drop (i * width) rows) ≡ drop ((i + 1) * width) rows
 next_rows rows i = let e : i * width + width ≡ (i + 1) * width = omega arith in drop-drop width (i * width) rows ∙ ap (λ n. drop n rows) e
+
+long_in_next : (ss : List Bool) (rows : List ℕ) (i : ℕ) → i < length ss
+    → long_in (drop i ss) (drop (i * width) rows)
+    ≡ (get_or ss i false && key_is_long (part width rows i)) ∷ long_in (drop (i + 1) ss) (drop ((i + 1) * width) rows)
+unfolding long_in
+long_in_next ss rows i h = rw (drop-cons ss i false h, next_rows rows i, add-one i)
 
 pub normal_rows_next : (ss : List Bool) (rows : List ℕ) (i : ℕ) → i < length ss
     → normal_rows (drop i ss) (drop (i * width) rows)
@@ -45,6 +52,16 @@ pub not_zero : (b : ℕ) → not (eqb b 0) ≡ is_store b
 not_zero zero = refl
 not_zero (suc b) = ap not (eqb-suc-zero b)
 
+-- ---- rows that are so many
+pub when_so_many : {A : Type 0} (b : Bool) (x y : A) → b ≡ true → x ≡ cond b x y
+when_so_many b x y e = sym (ap (λ t. cond t x y) e)
+
+pub so_many : (n : ℕ) (bytes : List ℕ) (rows : List (List ℕ)) → rows ≡ first_chunks width n bytes → length rows ≡ n
+so_many n bytes rows e = ap length e ∙ length_chunks width n bytes
+
+pub row_at : (n : ℕ) (bytes : List ℕ) (rows : List (List ℕ)) (i : ℕ) → rows ≡ first_chunks width n bytes → i < n → get_or rows i [] ≡ part width bytes i
+row_at n bytes rows i e h = ap (λ x. get_or x i []) e ∙ chunk_at width n i bytes [] h
+
 -- ---- the first row with too long a key
 
 met_next : (b : Bool) (m n : ℕ) → m ≡ n → cond (not b) (1 + m) 0 ≡ cond b 0 (suc n)
@@ -56,14 +73,30 @@ unfolding first_met long_in
 first_in_rows zero rows = refl
 first_in_rows (suc n) rows = met_next (key_is_long (take width rows)) _ _ (first_in_rows n (drop width rows))
 
--- an update's row, and its byte
-abbrev pub stored_long : List ℕ × ℕ → Bool
-stored_long q = is_store q.1 && key_is_long q.0
+-- of n updates' rows none before row i has too long a key
+module _ (ss : List Bool) (rows : List ℕ) (n i : ℕ) (hn : length ss ≡ n)
+    (before : first_met (long_in ss rows) ≡ i + first_met (long_in (drop i ss) (drop (i * width) rows))) where
+  -- r is the answer of row i's test
+  module _ (r : Bool) (h : i < n) (test : r ≡ (get_or ss i false && key_is_long (part width rows i))) where
+    pub long_here : r ≡ true → i ≡ first_met (long_in ss rows)
+    unfolding first_met
+    long_here q =
+        let z : first_met (long_in (drop i ss) (drop (i * width) rows)) ≡ 0 = rw (long_in_next ss rows i (omega arith), sym test ∙ q) in
+        omega (arith, before, z)
 
-pub first_in_updates : (bs rows : List ℕ) → position_or_len stored_long (zip (first_chunks width (length bs) rows) bs) ≡ first_met (long_in (stores_of bs) rows)
-unfolding first_met long_in
-first_in_updates [] rows = refl
-first_in_updates (b ∷ bs) rows = met_next (is_store b && key_is_long (take width rows)) _ _ (first_in_updates bs (drop width rows))
+    pub long_turn : r ≡ false → first_met (long_in ss rows) ≡ i + 1 + first_met (long_in (drop (i + 1) ss) (drop ((i + 1) * width) rows))
+    unfolding first_met
+    long_turn q =
+        let z : first_met (long_in (drop i ss) (drop (i * width) rows)) ≡ suc (first_met (long_in (drop (i + 1) ss) (drop ((i + 1) * width) rows))) =
+        rw (long_in_next ss rows i (omega arith), sym test ∙ q) in
+        omega (arith, before, z)
+
+  pub long_end : n ≤ i → i ≡ first_met (long_in ss rows)
+  unfolding first_met long_in
+  long_end h =
+      let z : first_met (long_in (drop i ss) (drop (i * width) rows)) ≡ 0 =
+      ap (λ x. first_met (long_in x (drop (i * width) rows))) (drop_of_length-le ss {i = i} (omega arith)) in
+      omega (arith, before, z)
 
 prefix_le : {X : Type 0} (p : X → Bool) (xs : List X) → prefix_len p xs ≤ length xs
 prefix_le p [] = omega arith

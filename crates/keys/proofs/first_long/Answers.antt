@@ -1,36 +1,53 @@
--- The place of the first pair that passes, of the rows beside their bytes. Assumes nothing.
-use mathlib.Core.Bool.{cond}
-use mathlib.Core.Path.{◌≡◌, sym, ap, ◌∙◌}
+-- The loop's invariant: no row so far has too long a key, so that the first is found among the others. Assumes nothing.
+use mathlib.Core.Bool.{false, ◌&&◌}
+use mathlib.Core.List.{[]}
+use mathlib.Core.Path.{◌≡◌, ap, ◌∙◌}
+use Prim.Native.Nat.{◌<◌}
 use native.Mathlib.Omega.{arith}
-use lib.ListN.{length}
-use Rattle.std.proofs.Common.{rules, tests}
-use Rattle.std.specs.Iterator.Adapters.{zip_first, zip_second}
-use Rattle.std.specs.Slice.Iter.{iter_rest}
-use Rattle.std.proofs.lemmas.Iterator.{YieldsList-from_slice, YieldsList-from_zip}
-use Rattle.std.proofs.lemmas.Iterator.Search.{position_from_yields_List}
-use Rattle.std.specs.List.{position, position_or_len, zip}
-use Rattle.std.specs.Option.{unwrap_or}
-use Rattle.std.proofs.lemmas.Slice.Zip.{length-zip}
-use Rattle.list_parts.proofs.Parts.{length_chunks}
+use lib.ListN.{length, get_or}
+use Rattle.list_parts.specs.Parts.{part}
 use Rattle.carried.specs.Carried.{width}
-use Rattle.keys.specs.Keys.{first_met, long_in, stores_of}
-use Rattle.keys.proofs.LawsCode.{stored_long, first_in_updates, place_or_all}
+use Rattle.keys.specs.Keys.{key_is_long, stores_of}
+use Rattle.keys.proofs.Laws.{length_stores_of, get_d_stores_of}
+use Rattle.keys.proofs.LawsCode.{when_so_many, so_many, row_at, long_here, long_turn, long_end}
 use Rattle.keys.proofs.first_long.Goals as goal
+
+pub bounds-stores-i : goal.bounds-stores-i
+bounds-stores-i c =
+    omega (arith, c.loop-i-test.true, so_many (length c.args.stores.now) c.args.rows.now c.in-Some.rows.now c.in-Some.ensures.1)
+
+pub returns-then-is_long : goal.returns-then-is_long
+returns-then-is_long c =
+    let bs = c.args.stores.now in
+    let bytes = c.args.rows.now in
+    let rows = c.in-Some.rows.now in
+    let n = length bs in
+    let i = c.loop-i.i in
+    let inside : i < n = omega (arith, c.loop-i-test.true, so_many n bytes rows c.in-Some.ensures.1) in
+    let test : c.is_long.result ≡ (get_or (stores_of bs) i false && key_is_long (part width bytes i)) =
+    c.is_long.ensures ∙ ap (λ s. s && key_is_long (get_or rows i [])) (c.is_store.ensures ∙ get_d_stores_of bs i)
+    ∙ ap (λ r. get_or (stores_of bs) i false && key_is_long r) (row_at n bytes rows i c.in-Some.ensures.1 inside) in
+    long_here (stores_of bs) bytes n i (length_stores_of bs) c.loop-i.invariant c.is_long.result inside test c.if-is_long.true
+    ∙ when_so_many _ _ n c.in-Some.ensures.0
+
+pub loop-i-preserved : goal.loop-i-preserved
+loop-i-preserved c =
+    let bs = c.args.stores.now in
+    let bytes = c.args.rows.now in
+    let rows = c.in-Some.rows.now in
+    let n = length bs in
+    let i = c.loop-i.i in
+    let inside : i < n = omega (arith, c.loop-i-test.true, so_many n bytes rows c.in-Some.ensures.1) in
+    let test : c.is_long.result ≡ (get_or (stores_of bs) i false && key_is_long (part width bytes i)) =
+    c.is_long.ensures ∙ ap (λ s. s && key_is_long (get_or rows i [])) (c.is_store.ensures ∙ get_d_stores_of bs i)
+    ∙ ap (λ r. get_or (stores_of bs) i false && key_is_long r) (row_at n bytes rows i c.in-Some.ensures.1 inside) in
+    long_turn (stores_of bs) bytes n i (length_stores_of bs) c.loop-i.invariant c.is_long.result inside test c.if-is_long.false
 
 pub returns : goal.returns
 returns c =
     let bs = c.args.stores.now in
+    let bytes = c.args.rows.now in
     let n = length bs in
-    let rows = c.in-Some.rows.now in
-    let first : iter_rest (zip_first c.zip.result) ≡ rows = search rules in
-    let second : iter_rest (zip_second c.zip.result) ≡ bs = search rules in
-    let found : c.position.result ≡ position stored_long (zip rows bs) =
-    position_from_yields_List {s = c.zip.result} stored_long c.position.new.self _ c.position.result c.position.ensures.ran
-    (YieldsList-from_zip (YieldsList-from_slice rows first) (YieldsList-from_slice bs second))
-    (λ x b q k. search (rules, tests)) in
-    let many : length rows ≡ n = ap length c.in-Some.ensures.1 ∙ length_chunks width n c.args.rows.now in
-    c.unwrap_or.ensures ∙ ap (λ o. unwrap_or o n) found
-    ∙ place_or_all stored_long (zip rows bs) n (length-zip rows bs ∙ omega (arith, many))
-    ∙ ap (λ x. position_or_len stored_long (zip x bs)) c.in-Some.ensures.1
-    ∙ first_in_updates bs c.args.rows.now
-    ∙ sym (ap (λ t. cond t (first_met (long_in (stores_of bs) c.args.rows.now)) n) c.in-Some.ensures.0)
+    let i = c.loop-i.i in
+    let all : n ≡ i = omega (arith, c.loop-i-test.false, c.loop-i.auto.i-end, so_many n bytes c.in-Some.rows.now c.in-Some.ensures.1) in
+    all ∙ long_end (stores_of bs) bytes n i (length_stores_of bs) c.loop-i.invariant (omega (arith, all)) ∙ when_so_many _ _ n c.in-Some.ensures.0

@@ -1,5 +1,4 @@
 -- The loop's invariant: the rows still to come, kept in the column as it is, are all rows kept in the column as it was. Assumes nothing.
-use mathlib.Core.Bool.{cond}
 use mathlib.Core.List.{[]}
 use mathlib.Core.Path.{◌≡◌, sym, ap, ◌∙◌}
 use Prim.Native.Nat.{◌+◌, ◌*◌, ◌^◌, ◌<◌}
@@ -8,17 +7,15 @@ use lib.ListN.{length, drop, get_or}
 use borrow.Author.Tests.{eqb-true}
 use borrow.Author.Rules.{rules}
 use Rattle.list_parts.specs.Parts.{part}
-use Rattle.list_parts.proofs.Parts.{length_chunks, chunk_at}
-use Rattle.carried.specs.Carried.{width, put_row, put_rows, up_from}
+use Rattle.carried.specs.Carried.{width, put_row}
 use Rattle.keys.specs.Keys.{normal_of, normal_rows, stores_of}
 use Rattle.keys.proofs.Laws.{length_stores_of, get_d_stores_of}
-use Rattle.keys.proofs.LawsCode.{keep_turn, keep_end, put_row_capped}
+use Rattle.keys.proofs.LawsCode.{when_so_many, so_many, row_at, keep_turn, keep_end, put_row_capped}
 use Rattle.keys.proofs.keep.Goals as goal
 
 pub bounds-stores-i : goal.bounds-stores-i
 bounds-stores-i c =
-    let many = ap length c.in-Some.ensures.1 ∙ length_chunks width (length c.args.stores.now) c.args.rows.now in
-    omega (arith, c.loop-i-test.true, many)
+    omega (arith, c.loop-i-test.true, so_many (length c.args.stores.now) c.args.rows.now c.in-Some.rows.now c.in-Some.ensures.1)
 
 pub loop-i-preserved : goal.loop-i-preserved
 loop-i-preserved c =
@@ -27,8 +24,8 @@ loop-i-preserved c =
     let n = length bs in
     let t = c.loop-i.column in
     let i = c.loop-i.i in
-    let inside : i < n = omega (arith, c.loop-i-test.true, ap length c.in-Some.ensures.1 ∙ length_chunks width n a.rows.now) in
-    let row : get_or c.in-Some.rows.now i [] ≡ part width a.rows.now i = ap (λ x. get_or x i []) c.in-Some.ensures.1 ∙ chunk_at width n i a.rows.now [] inside in
+    let inside : i < n = omega (arith, c.loop-i-test.true, so_many n a.rows.now c.in-Some.rows.now c.in-Some.ensures.1) in
+    let row : get_or c.in-Some.rows.now i [] ≡ part width a.rows.now i = row_at n a.rows.now c.in-Some.rows.now i c.in-Some.ensures.1 inside in
     let small : length t < 2 ^ 64 = search rules in
     keep_turn a.first (stores_of bs) a.rows.now t c.keep_row.new.column n i c.is_store.result (length_stores_of bs) (eqb-true _ _ c.in-Some.ensures.0) inside
     (c.is_store.ensures ∙ get_d_stores_of bs i)
@@ -41,7 +38,7 @@ returns c =
     let a = c.args in
     let n = length a.stores.now in
     let i = c.loop-i.i in
-    let many = ap length c.in-Some.ensures.1 ∙ length_chunks width n a.rows.now in
+    let many = so_many n a.rows.now c.in-Some.rows.now c.in-Some.ensures.1 in
     let rest = normal_rows (drop i (stores_of a.stores.now)) (drop (i * width) a.rows.now) in
     sym (keep_end (a.first + i) n i rest c.loop-i.column (omega (arith, c.loop-i-test.false, many))) ∙ c.loop-i.invariant
-    ∙ sym (ap (λ b. cond b (put_rows width (up_from a.first n) (normal_rows (stores_of a.stores.now) a.rows.now) a.column.now) a.column.now) c.in-Some.ensures.0)
+    ∙ when_so_many _ _ a.column.now c.in-Some.ensures.0
