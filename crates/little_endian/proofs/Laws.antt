@@ -13,9 +13,13 @@ use borrow.Author.Tests.{le-leb, lt-leb}
 use mathlib.Core.Bool.{cond, and-false}
 use mathlib.Core.Logic.{◌⊎◌, inl, inr}
 use lib.Dec.{leb}
-use lib.ListN.{length-replicate}
 use Rattle.std.specs.Int.{sum_through, byte_worth}
-use Rattle.std.proofs.lemmas.List.{drop-replicate}
+use Rattle.std.specs.List.{fold}
+use Rattle.std.specs.Prelude.{reverse}
+use lib.Bits.{bit_or}
+use Rattle.std.proofs.lemmas.List.{reverse-append}
+use Rattle.std.proofs.lemmas.List.Sums.{fold-append}
+use Rattle.std.proofs.lemmas.Nat.{or_shifted}
 use Rattle.little_endian.specs.LittleEndian.{Bytes, word, bytes_of, is_part, get_at, put_at}
 
 pub tail_bytes : (b : ℕ) (bs : List ℕ) → Bytes (b ∷ bs) → Bytes bs
@@ -134,24 +138,27 @@ word_whole k l r n h e = e ∙ word_worth k l ∙ ap word (take_all (suc k) l (o
 pub word_first : (l first : List ℕ) (r : ℕ) → first ≡ take 8 l → r ≡ sum_through (λ i. byte_worth i (get_or first i 0)) 7 → r ≡ word (take 8 l)
 word_first l first r f e = e ∙ word_worth 7 first ∙ ap word (take_all 8 first (rw (f, length-take 8 l) (omega arith)) ∙ f)
 
--- zeros behind the bytes
-word_zeros : (n : ℕ) → word (replicate n 0) ≡ 0
-unfolding word
-word_zeros zero = refl
-word_zeros (suc n) = omega (arith, word_zeros n)
+-- one byte after the other, from the highest down
+abbrev pub gather_byte : ℕ → ℕ → ℕ
+gather_byte number byte = bit_or (number * 2 ^ 8 % 2 ^ 64) byte
 
-word_then : (l z : List ℕ) → word z ≡ 0 → word (l ++ z) ≡ word l
-unfolding word
-word_then [] z e = e
-word_then (b ∷ bs) z e = omega (arith, word_then bs z e)
+gathered_byte : (number byte : ℕ) → number < 256 ^ 7 → byte < 2 ^ 8 → gather_byte number byte ≡ number * 2 ^ 8 + byte
+gathered_byte number byte h b =
+    let e : number * 2 ^ 8 % 2 ^ 64 ≡ number * 2 ^ 8 = omega arith in
+    rw e (or_shifted number 8 byte b)
 
-pub word_padded : (l : List ℕ) (r : ℕ) → length l ≤ 8
-    → r ≡ sum_through (λ i. byte_worth i (get_or (l ++ drop (length l) (replicate 8 0)) i 0)) 7 → r ≡ word (take 8 l)
-word_padded l r h e =
-    let z : drop (length l) (replicate {A = ℕ} 8 0) ≡ replicate (8 - length l) 0 = drop-replicate (length l) 8 0 in
-    let n : length (l ++ replicate {A = ℕ} (8 - length l) 0) ≤ 8 = rw (length-append, length-replicate) (omega arith) in
-    rw z at e ∙ word_worth 7 (l ++ replicate (8 - length l) 0) ∙ ap word (take_all 8 (l ++ replicate (8 - length l) 0) n)
-    ∙ word_then l (replicate (8 - length l) 0) (word_zeros (8 - length l)) ∙ ap word (sym (take_all 8 l h))
+gathered : (l : List ℕ) → Bytes l → length l ≤ 7 → fold gather_byte 0 (reverse l) ≡ word l
+unfolding word
+gathered [] h n = refl
+gathered (b ∷ bs) h n =
+    let t = tail_bytes b bs h in
+    ap (fold gather_byte 0) (reverse-append (b ∷ []) bs)
+    ∙ fold-append gather_byte 0 (reverse bs) (b ∷ [])
+    ∙ ap (λ (x : ℕ). gather_byte x b) (gathered bs t (omega arith))
+    ∙ gathered_byte (word bs) b (word_fits 7 bs t (omega arith)) (h 0)
+
+pub word_gathered : (l : List ℕ) (r : ℕ) → Bytes l → length l < 8 → r ≡ fold gather_byte 0 (reverse l) → r ≡ word (take 8 l)
+word_gathered l r h n e = e ∙ gathered l h (omega arith) ∙ ap word (sym (take_all 8 l (omega arith)))
 
 -- ---- a part in the middle: p, then m, then q
 module _ (p m q : List ℕ) (start end : ℕ) (hp : length p ≡ start) (hm : start + length m ≡ end) where
