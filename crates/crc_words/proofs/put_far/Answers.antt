@@ -16,7 +16,7 @@ returns-in-Some c =
     let others = c.in-Some.others.now in
     let rest = c.as_chunks.result.1.now in
     let z = held c.args.z in
-    let r = held c.singles.result in
+    let r = held c.singles-in-Some.result in
     subst (λ (us : List (List ℕ)). Far us z r)
     (joined 5 (length ws / 5) ws rest (first ∷ others) (sym c.in-Some.ensures.cases.0 ∙ c.as_chunks.ensures.front) c.as_chunks.ensures.back)
-    (passed_append register_after 5 (first ++ flat_map (λ words. words) others) rest z (held c.fives.result) r c.fives.ensures c.singles.ensures)
+    (passed_append register_after 5 (first ++ flat_map (λ words. words) others) rest z (held c.fives.result) r c.fives.ensures c.singles-in-Some.ensures)
