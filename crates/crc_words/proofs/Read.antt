@@ -1,26 +1,23 @@
 -- The register after words, from what is pending before them.
 -- Assumes nothing.
-use mathlib.Core.Path.{◌≡◌, refl, sym, ap, ap₂, ◌∙◌, subst}
-use mathlib.Core.List.{List, [], ◌∷◌, ◌++◌}
+use mathlib.Core.Path.{◌≡◌, refl, sym, ap, ap₂, ◌∙◌}
+use mathlib.Core.List.{List, [], ◌∷◌}
 use Prim.Native.Nat.{ℕ, zero, suc, ◌+◌, ◌-◌, ◌*◌, ◌/◌, ◌%◌, ◌^◌, ◌≤◌, ◌<◌}
-use native.Mathlib.Nat.{zero-mul, suc-mul, mod-lt, add-mul, mul_right_comm, mul-div-mul_right, mul-add-mod_self_right}
+use native.Mathlib.Nat.{mod-lt, add-mul, mul_right_comm, mul-div-mul_right, mul-add-mod_self_right}
 use native.Mathlib.Omega.{arith}
 use lib.Pow.{pow_pos, pow-add, split, high, shr-shr}
 use lib.Bits.{bit_xor, xor_shifted, xor_comm}
-use lib.ListN.{length, get_or, take, drop, length-take, length-drop, length-append, drop_of_length-le}
-use lib.Seq.{drop-drop, drop-cons, take-suc, take-add}
-use Rattle.std.specs.List.{flat_map}
-use Rattle.std.proofs.Common.{append_assoc, append-nil}
-use Rattle.std.proofs.lemmas.List.{take-append-drop}
-use Rattle.std.proofs.lemmas.List.Concat.{flat_map-append}
+use lib.ListN.{length, get_or, take, drop, length-take, length-drop, drop_of_length-le}
+use lib.Seq.{drop-drop, drop-cons}
 use Rattle.std.specs.Simd.{first_chunks}
 use Rattle.little_endian.specs.LittleEndian.{Bytes, word}
 use Rattle.little_endian.proofs.Laws.{take_bytes, drop_bytes, word_split, word_fits}
 use Rattle.crc_steps.specs.Crc32.{steps, crc_over}
-use Rattle.crc_words.specs.Fold.{up, over, num, Turn, number, register_after, Far}
+use Rattle.crc_words.specs.Fold.{up, over, num, Turn, number, register_after, Passed, Far}
 use Rattle.crc_steps.proofs.Linear.{steps_add, steps_shift, steps_zero}
 use Rattle.crc_steps.proofs.Laws.{over_word}
 use Rattle.crc_words.proofs.Bytes.{word_head}
+use Rattle.crc_words.proofs.Passed.{passed_append, length_chunks}
 use Rattle.crc_words.proofs.Turns.{last_turn}
 use Rattle.crc_steps.proofs.Agree.{shifted_xor}
 
@@ -47,29 +44,11 @@ onward ws d m k w z r t n l e =
     ∙ ap (λ (n : ℕ). register_after (drop n ws) r) j
 
 pub far_word : (x : List ℕ) (w z r : ℕ) → Turn 268 w z r → w ≡ word x → Far (x ∷ []) z r
-unfolding Far
+unfolding Passed
 far_word x w z r t e rest l = word_read x rest 268 w z r t e (omega arith)
 
-pub far_none : (z : ℕ) → Far [] z z
-unfolding Far
-far_none z rest l = refl
-
-pub far_append : (ws vs : List (List ℕ)) (z r t : ℕ) → Far ws z r → Far vs r t → Far (ws ++ vs) z t
-unfolding Far
-far_append ws vs z r t f g rest l =
-    ap (λ (us : List (List ℕ)). register_after us z) (append_assoc ws vs rest)
-    ∙ f (vs ++ rest) (simp length-append (omega arith))
-    ∙ g rest l
-
-pub far_more : (ws : List (List ℕ)) (i : ℕ) (d : List ℕ) (z r t : ℕ) → i < length ws → Far (take i ws) z r → Far (get_or ws i d ∷ []) r t → Far (take (i + 1) ws) z t
-far_more ws i d z r t l f g =
-    let e : suc i ≡ i + 1 = omega arith in
-    subst (λ (us : List (List ℕ)). Far us z t)
-    (sym (take-suc ws i d l) ∙ ap (λ (n : ℕ). take n ws) e)
-    (far_append (take i ws) (get_or ws i d ∷ []) z r t f g)
-
 pub far_cons : (w : List ℕ) (ws : List (List ℕ)) (z r t : ℕ) → Far (w ∷ []) z r → Far ws r t → Far (w ∷ ws) z t
-far_cons w ws z r t f g = far_append (w ∷ []) ws z r t f g
+far_cons w ws z r t f g = passed_append register_after 5 (w ∷ []) ws z r t f g
 
 pub five_words : (ws : List (List ℕ)) → length ws ≡ 5 → ws ≡ get_or ws 0 [] ∷ get_or ws 1 [] ∷ get_or ws 2 [] ∷ get_or ws 3 [] ∷ get_or ws 4 [] ∷ []
 five_words [] l = absurd (omega arith)
@@ -80,34 +59,7 @@ five_words (a ∷ b ∷ c ∷ d ∷ []) l = absurd (omega arith)
 five_words (a ∷ b ∷ c ∷ d ∷ e ∷ []) l = refl
 five_words (a ∷ b ∷ c ∷ d ∷ e ∷ f ∷ ws) l = absurd (omega arith)
 
--- blocks of words
-pub far_block : (first : List (List ℕ)) (blocks : List (List (List ℕ))) (i : ℕ) (z r t : ℕ) → i < length blocks
-    → Far (first ++ flat_map (λ words. words) (take i blocks)) z r → Far (get_or blocks i []) r t
-    → Far (first ++ flat_map (λ words. words) (take (i + 1) blocks)) z t
-far_block first blocks i z r t l f g =
-    let before = flat_map (λ words. words) (take i blocks) in
-    let e : suc i ≡ i + 1 = omega arith in
-    subst (λ (us : List (List ℕ)). Far us z t)
-    (append_assoc first before (get_or blocks i [])
-    ∙ ap (◌++◌ first) (ap (◌++◌ before) (sym (append-nil (get_or blocks i []))) ∙ sym (flat_map-append (λ words. words) (take i blocks) (get_or blocks i [] ∷ [])) ∙ ap (flat_map (λ words. words)) (sym (take-suc blocks i [] l) ∙ ap (λ (n : ℕ). take n blocks) e)))
-    (far_append (first ++ before) (get_or blocks i []) z r t f g)
-
 -- the words of a slice, and of its bytes
-pub flat_chunks : {X : Type 0} (n k : ℕ) (xs : List X) → flat_map (λ chunk. chunk) (first_chunks n k xs) ≡ take (k * n) xs
-flat_chunks n zero xs = ap (λ (m : ℕ). take m xs) (sym (zero-mul n))
-flat_chunks n (suc k) xs =
-    let e : suc k * n ≡ n + k * n = omega (arith, suc-mul k n) in
-    ap (◌++◌ (take n xs)) (flat_chunks n k (drop n xs)) ∙ sym (take-add n (k * n) xs) ∙ ap (λ (m : ℕ). take m xs) (sym e)
-
-pub in_blocks : (ws first rest : List (List ℕ)) (chunks blocks : List (List (List ℕ))) (k : ℕ) → chunks ≡ first_chunks 5 k ws → chunks ≡ first ∷ blocks
-    → rest ≡ drop (k * 5) ws → (first ++ flat_map (λ words. words) blocks) ++ rest ≡ ws
-in_blocks ws first rest chunks blocks k e f g =
-    ap₂ (λ (us vs : List (List ℕ)). us ++ vs) (ap (flat_map (λ words. words)) (sym f ∙ e) ∙ flat_chunks 5 k ws) g ∙ take-append-drop (k * 5) ws
-
-length_chunks : {X : Type 0} (n k : ℕ) (xs : List X) → length (first_chunks n k xs) ≡ k
-length_chunks n zero xs = refl
-length_chunks n (suc k) xs = ap (λ (j : ℕ). suc j) (length_chunks n k (drop n xs))
-
 number_chunks : (n : ℕ) (s : List ℕ) → Bytes s → length s ≡ 8 * n → number (first_chunks 8 n s) ≡ word s
 unfolding number over word
 number_chunks zero [] h e = refl

@@ -301,10 +301,13 @@ fn put_far(z: Pend, words: &[Word]) -> Pend
     if let [first, second, third] = words {
         return three(z, first, second, third);
     }
+    if words.len() < MANY {
+        return singles(z, words);
+    }
     let (blocks, rest) = words.as_chunks::<FIVE>();
     match blocks.split_first() {
-        Some((first, others)) if MANY <= words.len() => singles(fives(z, first, others), rest),
-        _ => singles(z, words),
+        Some((first, others)) => singles(fives(z, first, others), rest),
+        None => singles(z, words),
     }
 }
 

@@ -9,8 +9,8 @@ use lib.ListN.{get_or}
 use lib.Seq.{take_all}
 use Rattle.std.proofs.Common.{append-nil}
 use Rattle.std.specs.List.{flat_map}
-use Rattle.crc_words.specs.Fold.{held, past, Far}
-use Rattle.crc_words.proofs.Read.{far_block}
+use Rattle.crc_words.specs.Fold.{held, past, register_after, Far}
+use Rattle.crc_words.proofs.Passed.{passed_block}
 use Rattle.crc_words.proofs.LastWords.{past_zero, num_zero}
 use Rattle.crc_words.proofs.fives.Goals as goal
 
@@ -33,7 +33,7 @@ loop-words-preserved c =
     let d = c.default-in-loop-words.result in
     let none = c.default-in-loop-words.ensures in
     let e : bit_xor h (held d) ≡ h = ap (bit_xor h) (num_zero d.a d.b d.c d.d d.e none.0 none.1.0 none.1.1.0 none.1.1.1.0 none.1.1.1.1) ∙ xor_zero_r h in
-    far_block c.args.first.now blocks i (held c.args.from) h r (omega arith) c.loop-words.invariant
+    passed_block register_after 5 c.args.first.now blocks i (held c.args.from) h r (omega arith) c.loop-words.invariant
     (subst (λ (x : ℕ). Far (get_or blocks i []) x r) e c.five-h-in-loop-words.ensures)
 
 pub returns : goal.returns

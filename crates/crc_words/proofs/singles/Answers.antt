@@ -3,12 +3,13 @@
 use mathlib.Core.List.{[]}
 use native.Mathlib.Omega.{arith}
 use lib.ListN.{get_or}
-use Rattle.crc_words.specs.Fold.{held}
-use Rattle.crc_words.proofs.Read.{far_none, far_word, far_more}
+use Rattle.crc_words.specs.Fold.{held, register_after}
+use Rattle.crc_words.proofs.Passed.{passed_none, passed_more}
+use Rattle.crc_words.proofs.Read.{far_word}
 use Rattle.crc_words.proofs.singles.Goals as goal
 
 pub loop-word-init : goal.loop-word-init
-loop-word-init c = far_none (held c.args.from)
+loop-word-init c = passed_none register_after 5 (held c.args.from)
 
 pub loop-word-preserved : goal.loop-word-preserved
 loop-word-preserved c =
@@ -16,4 +17,4 @@ loop-word-preserved c =
     let i = c.loop-word.word-index in
     let z = held c.loop-word.z in
     let r = held c.far-z.result in
-    far_more ws i [] (held c.args.from) z r (omega arith) c.loop-word.invariant (far_word (get_or ws i []) c.load.result z r c.far-z.ensures c.load.ensures)
+    passed_more register_after 5 ws i [] (held c.args.from) z r (omega arith) c.loop-word.invariant (far_word (get_or ws i []) c.load.result z r c.far-z.ensures c.load.ensures)

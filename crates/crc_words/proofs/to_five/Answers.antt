@@ -6,11 +6,11 @@ use Prim.Native.Nat.{ℕ, ◌-◌}
 use native.Mathlib.Omega.{arith}
 use lib.ListN.{length, drop, length-drop}
 use Rattle.std.proofs.lemmas.List.{take-append-drop}
-use Rattle.crc_words.specs.Fold.{held, register_after, Far}
+use Rattle.crc_words.specs.Fold.{held, register_after, Passed}
 use Rattle.crc_words.proofs.to_five.Goals as goal
 
 pub returns : goal.returns
-unfolding Far
+unfolding Passed
 returns c =
     let ws = c.args.words.now in
     let n = length ws - 5 in
