@@ -10,7 +10,8 @@ pub const MOST: usize = 512;
 // What is lent for an answer holds some number before the call, and not 0, so that what the call leaves of it can be told.
 pub const ANY: u64 = 165;
 
-// As many rows as `len` says.
+// As many rows as `len` says. No ghost field says that they fit, and so they are cut to MOST: the borrow checker has no rule for a slice of
+// such a struct that is handed out as `&mut`.
 #[derive(Drop)]
 pub struct Column {
     space: [u64; MOST],
