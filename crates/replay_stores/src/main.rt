@@ -9,18 +9,19 @@
 mod allocators;
 mod batches;
 mod columns;
-mod history;
 mod kinds;
-mod lines;
 mod pages;
 mod pokes;
 mod reads;
 mod reasons;
+mod snapshots;
+mod store;
 
 use std::io;
 
 fn main(rt: HostRuntime) -> io::Result<()> {
-    history::file(&rt, b"stores.words")?;
-    history::file(&rt, b"files.words")?;
-    history::file(&rt, b"tables.words")
+    for name in ["stores.words", "files.words", "tables.words"] {
+        store::replay(&rt, name)?;
+    }
+    Ok(())
 }

@@ -19,7 +19,7 @@ pub fn space() -> [u8; LONGEST]
     [0; LONGEST]
 }
 
-// Reads until the space is full or the file ends, and answers how many bytes it has.
+// Reads until the space is full or the file ends, and answers how many bytes it has. A `while`, since only a read says how far it came.
 fn read_full(file: &mut impl Read, space: &mut [u8]) -> io::Result<usize>
     ensures { IfOk result (λ n. n ≤ length space.new) }
 {
