@@ -69,9 +69,10 @@ module _ (f : Format) (rows : List ℕ) (count i start : ℕ) where
   refused_met h r = rw (entries_turn f rows count i start h, r)
 
   pub refused_turn : i < count → f.refuses (entry_of f (drop start rows)).carried ≡ false
-      → any_refused f (entries_in f (count - (i + 1)) (drop (start + row_length f) rows)) ≡ any_refused f (entries_in f (count - i) (drop start rows))
+      → (next : ℕ) → start + row_length f ≡ next
+      → any_refused f (entries_in f (count - (i + 1)) (drop next rows)) ≡ any_refused f (entries_in f (count - i) (drop start rows))
   unfolding any_refused
-  refused_turn h r = rw (entries_turn f rows count i start h, r)
+  refused_turn h r next n = rw (← n, entries_turn f rows count i start h, r)
 
   pub refused_done : count ≤ i → any_refused f (entries_in f (count - i) (drop start rows)) ≡ false
   unfolding any_refused entries_in

@@ -5,7 +5,7 @@ use mathlib.Core.Path.{◌≡◌, refl, sym, ap, ◌∙◌}
 use mathlib.Core.List.{List, [], ◌∷◌}
 use Prim.Native.Nat.{ℕ, zero, suc, ◌+◌, ◌-◌, ◌*◌, ◌≤◌, ◌<◌}
 use native.Mathlib.Numerals.{add-one}
-use native.Mathlib.Nat.{mul-suc, mul-le-mul}
+use native.Mathlib.Nat.{mul-one, mul-suc, mul-le-mul}
 use native.Mathlib.Omega.{arith}
 use lib.Dec.{eqb, lit<, lit≤}
 use lib.ListN.{length, drop, get_or-eq_default}
@@ -41,10 +41,10 @@ module _ (f : Format) (rows : List ℕ) (count i start : ℕ) (h : i < count) wh
   unfolding entry_of
   id_turn = let e : start + 0 ≡ start = omega arith in rw e at (get_at_drop start 0 8 rows (lit< tt))
 
-  pub above_turn : (before id width : ℕ) → f.width ≡ width → id ≡ get_at start (start + 8) rows → before < id
-      → above id (entries_in f (count - (i + 1)) (drop (start + (16 + width)) rows)) ≡ above before (entries_in f (count - i) (drop start rows))
+  pub above_turn : (before id width next : ℕ) → f.width ≡ width → start + (16 + width) ≡ next → id ≡ get_at start (start + 8) rows → before < id
+      → above id (entries_in f (count - (i + 1)) (drop next rows)) ≡ above before (entries_in f (count - i) (drop start rows))
   unfolding above
-  above_turn before id width w e l = rw (entries_turn, id_turn, ← e, lt-ltb before id l, w)
+  above_turn before id width next w n e l = rw (← n, entries_turn, id_turn, ← e, lt-ltb before id l, w)
 
   pub above_not : (before id : ℕ) → id ≡ get_at start (start + 8) rows → id ≤ before → above before (entries_in f (count - i) (drop start rows)) ≡ false
   unfolding above
@@ -55,16 +55,14 @@ module _ (f : Format) (rows : List ℕ) (count : ℕ) where
   unfolding above entries_in
   above_done i start before h = let e : count - i ≡ zero = omega arith in rw e
 
-  pub above_first : (width before : ℕ) → f.width ≡ width → 0 < count → before ≡ get_at 0 8 rows
-      → above before (entries_in f (count - 1) (drop (16 + width) rows)) ≡ ascending (entries_in f count rows)
-  unfolding ascending entries_in entry_of
-  above_first width before w h b =
-      let e : suc (count - 1) ≡ count = omega arith in
-      rw (b, ← w) (ap (λ (k : ℕ). ascending (entries_in f k rows)) e)
-
-  pub ascending_none : count ≡ 0 → ascending (entries_in f count rows) ≡ true
-  unfolding ascending entries_in
-  ascending_none e = rw e
+-- before the first turn
+pub above_first : (f : Format) (rows : List ℕ) (count width before : ℕ) → f.width ≡ width → before ≡ get_at 0 8 rows
+    → above before (entries_in f (count - 1) (drop ((16 + width) * 1) rows)) ≡ ascending (entries_in f count rows)
+unfolding above ascending entries_in entry_of
+above_first f rows zero width before w b = refl
+above_first f rows (suc n) width before w b =
+    let e : suc n - 1 ≡ n = omega arith in
+    rw (e, mul-one (16 + width), b, ← w)
 
 -- ---- what is wrong in a block that has its length
 pub judged_in_block : (f : Format) (number : ℕ) (last : Bool) (block : List ℕ) → length block ≡ 512 → judged_in f number last block ≡ wrong_in f number last block

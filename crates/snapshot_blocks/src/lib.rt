@@ -3,18 +3,19 @@
 // Both are read; version 2 is written.
 //
 //     snapshot_blocks::write(number, ids, locations, carried, block);
-//     let wrong = snapshot_blocks::wrong_in(block, number, last);  // 0, 1, 4, 6 or 19
+//     let wrong = snapshot_blocks::wrong_in(block, number, last);  // None, or 1, 4, 6 or 19
 //     let first = snapshot_blocks::row_at(block, 0);
 //
 // A row is written straight from the store's tables: one copy of what is carried and three stores of eight bytes, the location and what is carried found
 // by the id. What cannot be written leaves the block as it was.
 #![tactic(auto)]
 
-ghost use Rattle.std.specs.Prelude.{not, cond, ◌&&◌, ◌++◌, map, ◌≡◌, ◌*◌, ◌+◌, ◌≤◌, ◌<◌, min, eqb, length, take, drop};
+ghost use Rattle.std.specs.Prelude.{not, cond, ◌&&◌, ◌++◌, map, ◌≡◌, ◌*◌, ◌+◌, ◌≤◌, ◌<◌, min, eqb, ltb, length, take, drop};
 ghost use Rattle.zeros.specs.Zeros.{all_zero};
 ghost use Rattle.keys.specs.Keys.{is_normal};
 ghost use Rattle.snapshot_blocks.specs.Formats.{Format, version2, format_of, row_length, per_block};
-ghost use Rattle.snapshot_blocks.specs.Blocks.{entry_for, AreRows, row_bytes, rows_bytes, block_of, count_in, version_in, entry_of, entries_in, ascending, any_refused, padding_after, is_count, right_in, wrong_in, judged_in, id_at, key_length_in, row_at, each_below, can_write};
+ghost use Rattle.snapshot_blocks.specs.Blocks.{entry_for, AreRows, row_bytes, rows_bytes, block_of, count_in, version_in, entry_of, entries_in, ascending, any_refused, padding_after, is_count, right_in, wrong_in, judged_in, id_at, key_length_in, row_at, can_write};
+ghost use Rattle.std.specs.List.{list_all};
 
 use carried::WIDTH;
 use keys::MOST_KEY;
@@ -56,13 +57,8 @@ pub struct Row {
     pub length: usize,
 }
 
-fn smaller(a: usize, b: usize) -> usize
-    ensures { result ≡ min a b }
-{
-    if a < b { a } else { b }
-}
-
 // Where the row at `k` starts, or where so many rows end.
+#[tactic(auto, using(crate::proofs::Turns::start_le))]
 fn start_of(width: usize, k: usize) -> usize
     requires { (width ≤ 80) × (k ≤ 20) }
     ensures { result ≡ 8 + (16 + width) * k }
@@ -86,32 +82,34 @@ pub fn version_in(block: &[u8]) -> u64
     little_endian::get_at(block, VERSION_AT, ROWS_AT)
 }
 
+#[tactic(auto, unfolding(crate::specs::Formats::format_of))]
 fn is_known(version: u64) -> bool
     ensures { result ≡ eqb version (format_of version).version }
 {
-    if version == VERSION {
-        return true;
-    }
-    version == VERSION_BEFORE
+    version == VERSION || version == VERSION_BEFORE
 }
 
 // How many bytes a row of this block carries, and as many rows as it has room for. A block of an unknown version is read as one of the version before.
+#[tactic(auto, unfolding(crate::specs::Formats::format_of))]
 pub fn width_in(block: &[u8]) -> usize
     ensures { result ≡ (format_of (version_in block.now)).width }
 {
     if version_in(block) == VERSION {
-        return WIDTH;
+        WIDTH
+    } else {
+        WIDTH_BEFORE
     }
-    WIDTH_BEFORE
 }
 
+#[tactic(auto, using(crate::proofs::Turns::per_block_version1, crate::proofs::Turns::per_block_version2), unfolding(crate::specs::Formats::format_of))]
 pub fn most_in(block: &[u8]) -> usize
     ensures { result ≡ per_block (format_of (version_in block.now)) }
 {
     if version_in(block) == VERSION {
-        return PER_BLOCK;
+        PER_BLOCK
+    } else {
+        PER_BLOCK_BEFORE
     }
-    PER_BLOCK_BEFORE
 }
 
 // Whether the first rows of so many ascend strictly by id.
@@ -119,39 +117,29 @@ fn is_ascending(rows: &[u8], width: usize, count: usize) -> bool
     requires { (width ≤ 80) × (count ≤ 20) }
     ensures { (f : Format) → f.width ≡ width → result ≡ ascending (entries_in f count rows.now) }
 {
-    if count == 0 {
-        return true;
-    }
     let row = NUMBERS + width;
     let mut before = little_endian::get_at(rows, 0, 8);
-    let mut start = row;
-    let mut i = 1;
-    while i < count {
+    for i in 1..count {
+        let start = row * i;
         let id = little_endian::get_at(rows, start, start + 8);
         if id <= before {
             return false;
         }
         before = id;
-        start += row;
-        i += 1;
     }
     true
 }
 
 // Whether the block at `number` may have so many rows, where `most` are as many as fit one.
+#[tactic(auto, unfolding(crate::specs::Blocks::is_count))]
 fn is_count(most: usize, number: usize, last: bool, count: usize) -> bool
     ensures { (f : Format) → per_block f ≡ most → result ≡ is_count f number last count }
 {
-    if !last {
-        return count == most;
+    if last {
+        count <= most && (count > 0 || number == 0)
+    } else {
+        count == most
     }
-    if count > most {
-        return false;
-    }
-    if count > 0 {
-        return true;
-    }
-    number == 0
 }
 
 // Whether what lies between so many rows and the check is zero.
@@ -165,18 +153,13 @@ fn is_padded(block: &[u8], count: usize) -> bool
 }
 
 // Whether the row at `start`, of version 2, is none that a store keeps: its key is too long, or what follows the key is not zero.
+#[tactic(auto, using(crate::proofs::Refused::refused_long, crate::proofs::Refused::refused_behind))]
 fn is_refused(rows: &[u8], start: usize) -> bool
     requires { start + 96 ≤ length rows.now }
     ensures { result ≡ not (is_normal (entry_of version2 (drop start rows.now)).carried) }
 {
     let long = rows[start + LENGTH_AT] as usize;
-    if long > MOST_KEY {
-        return true;
-    }
-    let key = start + KEY_AT;
-    let behind = key + long;
-    let end = start + (NUMBERS + WIDTH);
-    !zeros::all_zero(&rows[behind..end])
+    long > MOST_KEY || !zeros::all_zero(&rows[start + KEY_AT + long..start + (NUMBERS + WIDTH)])
 }
 
 // Whether some of the first rows, of version 2, is refused.
@@ -184,32 +167,27 @@ fn any_refused(rows: &[u8], count: usize) -> bool
     requires { (count ≤ 5) × (96 * count ≤ length rows.now) }
     ensures { result ≡ any_refused version2 (entries_in version2 count rows.now) }
 {
-    let mut start = 0;
-    let mut i = 0;
-    while i < count {
-        if is_refused(rows, start) {
+    for i in 0..count {
+        if is_refused(rows, (NUMBERS + WIDTH) * i) {
             return true;
         }
-        start += NUMBERS + WIDTH;
-        i += 1;
     }
     false
 }
 
 // Whether some of the first rows of a block is refused; version 1 refuses none.
+#[tactic(auto, using(crate::proofs::Turns::format_of_now, crate::proofs::Turns::format_of_before, crate::proofs::Turns::per_block_version2, crate::proofs::Turns::any_refused_version1))]
 fn has_refused(block: &[u8], count: usize) -> bool
     requires { (length block.now ≡ 512) × (count ≤ per_block (format_of (version_in block.now))) }
     ensures { result
         ≡ any_refused (format_of (version_in block.now))
         (entries_in (format_of (version_in block.now)) count (drop 8 block.now)) }
 {
-    if version_in(block) != VERSION {
-        return false;
-    }
-    any_refused(&block[ROWS_AT..], count)
+    version_in(block) == VERSION && any_refused(&block[ROWS_AT..], count)
 }
 
 // Whether what follows so many rows is zero, none of them is refused, and they ascend.
+#[tactic(auto, using(crate::proofs::Turns::format_of_sound, crate::proofs::Turns::format_of_few))]
 fn has_right_rows(block: &[u8], count: usize) -> bool
     requires { (length block.now ≡ 512) × (count ≤ per_block (format_of (version_in block.now))) }
     ensures { result
@@ -218,31 +196,25 @@ fn has_right_rows(block: &[u8], count: usize) -> bool
         (entries_in (format_of (version_in block.now)) count (drop 8 block.now)))
         && ascending (entries_in (format_of (version_in block.now)) count (drop 8 block.now)))) }
 {
-    if !is_padded(block, count) {
-        return false;
-    }
-    if has_refused(block, count) {
-        return false;
-    }
-    is_ascending(&block[ROWS_AT..], width_in(block), count)
+    is_padded(block, count)
+        && !has_refused(block, count)
+        && is_ascending(&block[ROWS_AT..], width_in(block), count)
 }
 
 // Whether the number, the rows and the padding of a block are right.
+#[tactic(auto, using(crate::proofs::Blocks::is_count_per_block), unfolding(crate::specs::Blocks::right_in, crate::specs::Blocks::rows_in_block))]
 fn is_right(block: &[u8], number: usize, last: bool) -> bool
     requires { length block.now ≡ 512 }
     ensures { result ≡ right_in (format_of (version_in block.now)) number last block.now }
 {
-    if little_endian::get_at(block, 0, COUNT_AT) != number as u64 {
-        return false;
-    }
     let count = count_in(block);
-    if !is_count(most_in(block), number, last, count) {
-        return false;
-    }
-    has_right_rows(block, count)
+    little_endian::get_at(block, 0, COUNT_AT) == number as u64
+        && is_count(most_in(block), number, last, count)
+        && has_right_rows(block, count)
 }
 
 // What is wrong in a block that has its length.
+#[tactic(auto, unfolding(crate::specs::Blocks::wrong_in))]
 fn wrong_in_block(block: &[u8], number: usize, last: bool) -> Option<Kind>
     requires { length block.now ≡ 512 }
     ensures { result ≡ wrong_in (format_of (version_in block.now)) number last block.now }
@@ -260,6 +232,7 @@ fn wrong_in_block(block: &[u8], number: usize, last: bool) -> Option<Kind>
 }
 
 // What is wrong in the block at `number` by itself.
+#[tactic(auto, unfolding(crate::specs::Blocks::judged_in))]
 pub fn wrong_in(block: &[u8], number: usize, last: bool) -> Option<Kind>
     ensures { result ≡ judged_in (format_of (version_in block.now)) number last block.now }
 {
@@ -273,7 +246,7 @@ pub fn wrong_in(block: &[u8], number: usize, last: bool) -> Option<Kind>
 fn start_in(block: &[u8], k: usize) -> usize
     ensures { (result ≡ 8 + row_length (format_of (version_in block.now)) * min k 20) × (result ≤ 1928) }
 {
-    let place = smaller(k, PER_BLOCK_BEFORE);
+    let place = k.min(PER_BLOCK_BEFORE);
     let width = width_in(block);
     start_of(width, place)
 }
@@ -287,6 +260,7 @@ pub fn id_at(block: &[u8], k: usize) -> u64
 }
 
 // How long the key of the row at `start` is; a row of version 1 has none.
+#[tactic(auto, using(crate::proofs::Turns::key_length_none, crate::proofs::Turns::key_length_some))]
 fn key_length(block: &[u8], start: usize) -> usize
     requires { start ≤ 2000 }
     ensures { result ≡ key_length_in (format_of (version_in block.now)) (drop start block.now) }
@@ -298,6 +272,7 @@ fn key_length(block: &[u8], start: usize) -> usize
 }
 
 // The row at `k`, the place of its key counted from the block's start.
+#[tactic(auto, using(crate::proofs::Turns::row_shown))]
 pub fn row_at(block: &[u8], k: usize) -> Row
     ensures { result ≡ row_at (format_of (version_in block.now)) 0 (min k 20) block.now }
 {
@@ -346,11 +321,8 @@ fn put_rows(ids: &[u64], locations: &[u64], carried: &[u8], block: &mut [u8])
         ++ (rows_bytes (map (entry_for 80 locations.now carried.now) ids.now)
         ++ drop (8 + 96 * length ids.now) block.old) }
 {
-    let mut i = 0;
-    while i < ids.len() {
-        let start = start_of(WIDTH, i);
-        put_row(block, start, ids[i], locations, carried);
-        i += 1;
+    for (i, id) in ids.iter().enumerate() {
+        put_row(block, start_of(WIDTH, i), *id, locations, carried);
     }
 }
 
@@ -372,33 +344,21 @@ fn write_block(number: u64, ids: &[u64], locations: &[u64], carried: &[u8], bloc
 
 // Whether each id is below `rows`.
 fn each_below(ids: &[u64], rows: usize) -> bool
-    ensures { result ≡ each_below rows ids.now }
+    ensures { result ≡ list_all (λ i. ltb i rows) ids.now }
 {
-    let mut i = 0;
-    while i < ids.len() {
-        if ids[i] >= rows as u64 {
-            return false;
-        }
-        i += 1;
-    }
-    true
+    ids.iter().all(|id| *id < rows as u64)
 }
 
 // Whether these ids' rows, of tables so long, can be written to a block so long.
+#[tactic(auto, using(crate::proofs::Turns::per_block_version2, crate::proofs::CanWrite::told_each_below), unfolding(crate::specs::Blocks::can_write))]
 fn can_write(ids: &[u64], locations: usize, carried: usize, block: usize) -> bool
     ensures { result ≡ can_write version2 ids.now locations carried block }
 {
-    if ids.len() > PER_BLOCK {
-        return false;
-    }
-    if block != BLOCK {
-        return false;
-    }
-    let rows = smaller(locations, carried / WIDTH);
-    each_below(ids, rows)
+    ids.len() <= PER_BLOCK && block == BLOCK && each_below(ids, locations.min(carried / WIDTH))
 }
 
 // Writes the block at `number`: the rows of these ids. Where that cannot be, the block is left as it was.
+#[tactic(auto, using(crate::proofs::CanWrite::can_write_rows))]
 pub fn write(number: u64, ids: &[u64], locations: &[u64], carried: &[u8], block: &mut [u8])
     ensures { block.new
         ≡ cond
@@ -407,8 +367,7 @@ pub fn write(number: u64, ids: &[u64], locations: &[u64], carried: &[u8], block:
         (block_of version2 number (map (entry_for 80 locations.now carried.now) ids.now))
         block.old }
 {
-    if !can_write(ids, locations.len(), carried.len(), block.len()) {
-        return;
+    if can_write(ids, locations.len(), carried.len(), block.len()) {
+        write_block(number, ids, locations, carried, block);
     }
-    write_block(number, ids, locations, carried, block);
 }

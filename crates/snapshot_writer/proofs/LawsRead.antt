@@ -65,11 +65,11 @@ module _ (m : Memory) where
   unfolding answer refusal refusal_of ask_refusal grant reply read
   length_answer = λ k. answer_by (shape_read (ask snapshot_length) m k ⨾ test (ltb 0 (get_or m.batch 0 0)) batch_open 0) (gave (file_length version2 (length (picked_read k))))
 
-  pub length_shape : (r : Refusal) → r ≡ record { number = wrong_shape; index = 0 } → fits stored_tables m ≡ false → refused r.number r.index ≡ answer (read m) (ask snapshot_length)
+  pub length_shape : (r : Refusal) → r ≡ record { kind = wrong_shape; index = 0 } → fits stored_tables m ≡ false → refused r.kind r.index ≡ answer (read m) (ask snapshot_length)
   unfolding test ◌⨾◌
   length_shape r e f = rw (e, length_answer, f)
 
-  pub length_open : (r : Refusal) → r ≡ record { number = batch_open; index = 0 } → fits stored_tables m ≡ true → (get_or m.batch 0 0 ≡ 0 → ⊥) → refused r.number r.index ≡ answer (read m) (ask snapshot_length)
+  pub length_open : (r : Refusal) → r ≡ record { kind = batch_open; index = 0 } → fits stored_tables m ≡ true → (get_or m.batch 0 0 ≡ 0 → ⊥) → refused r.kind r.index ≡ answer (read m) (ask snapshot_length)
   unfolding test ◌⨾◌
   length_open r e f o = rw (e, length_answer, f, opened (get_or m.batch 0 0) o)
 
@@ -126,13 +126,13 @@ module _ (m : Memory) where
   unfolding snapshot_leaves answer
   leaves_refused file n i e = rw e
 
-  pub leaves_as : (file : List ℕ) (r : Refusal) (n : ℕ) → r ≡ record { number = n; index = 0 } → refusal (read m) (ask (snapshot file)) ≡ refuse n 0
-      → ◌≡◌ {A = Left} (record { answer = refused r.number r.index; file = file }) (snapshot_leaves m file)
-  leaves_as file r n p e = (λ i. record { answer = refused (p i).number (p i).index; file = file }) ∙ leaves_refused file n 0 e
+  pub leaves_as : (file : List ℕ) (r : Refusal) (n : Kind) → r ≡ record { kind = n; index = 0 } → refusal (read m) (ask (snapshot file)) ≡ refuse n 0
+      → ◌≡◌ {A = Left} (record { answer = refused r.kind r.index; file = file }) (snapshot_leaves m file)
+  leaves_as file r n p e = (λ i. record { answer = refused (p i).kind (p i).index; file = file }) ∙ leaves_refused file n 0 e
 
   pub leaves_verdict : (file : List ℕ) (j : Result ⊤ Refusal) (r : Refusal) → j ≡ Err r → refusal (read m) (ask (snapshot file)) ≡ judged_verdict j
-      → ◌≡◌ {A = Left} (record { answer = refused r.number r.index; file = file }) (snapshot_leaves m file)
-  leaves_verdict file j r p e = leaves_refused file r.number r.index (e ∙ ap judged_verdict p)
+      → ◌≡◌ {A = Left} (record { answer = refused r.kind r.index; file = file }) (snapshot_leaves m file)
+  leaves_verdict file j r p e = leaves_refused file r.kind r.index (e ∙ ap judged_verdict p)
 
   pub leaves_done : (file after : List ℕ) (j : Result ⊤ Refusal) → j ≡ (Ok tt) → refusal (read m) (ask (snapshot file)) ≡ judged_verdict j → length after ≡ length file → after ≡ picked_file
       → ◌≡◌ {A = Left} (record { answer = granted (wrote after); file = after }) (snapshot_leaves m file)

@@ -151,8 +151,8 @@ count_start p n = rw (those_all p n) (omega arith)
 pub rows_start : (p : ℕ → Bool) (n : ℕ) (bad : ℕ → Bool) → snapshot_rows bad 0 (those_from p (n - 0) 0) ≡ snapshot_rows bad 0 (those_from p n 0)
 rows_start p n bad = ap (snapshot_rows bad 0) (those_all p n)
 
-pub refused_row : (r : Refusal) (row : ℕ) → r ≡ refusal tables_disagree row → refuse r.number r.index ≡ refuse tables_disagree row
-refused_row r row e = λ k. refuse (e k).number (e k).index
+pub refused_row : (r : Refusal) (row : ℕ) → r ≡ refusal tables_disagree row → refuse r.kind r.index ≡ refuse tables_disagree row
+refused_row r row e = λ k. refuse (e k).kind (e k).index
 
 pub those_few : (p : ℕ → Bool) (n i : ℕ) → length (those_from p n i) ≤ n
 unfolding those_from

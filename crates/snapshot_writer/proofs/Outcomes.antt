@@ -4,7 +4,7 @@ use mathlib.Core.Path.{◌≡◌, refl}
 use Prim.Native.Nat.{ℕ}
 use lib.ListN.{get_or}
 use Rattle.refusal.specs.Outcomes.{finished_outcome}
-use Rattle.refusal.proofs.Outcomes.{outcome_one}
+use Rattle.refusal.proofs.Outcomes.{outcome_one, finished_outcome_one}
 use Rattle.model.specs.Outcomes.{outcome_of}
 use Rattle.model.specs.Store.{wrote}
 use Rattle.model.proofs.Outcomes.{answer_one, finished_as_outcome}

@@ -30,7 +30,6 @@ use refusal::{Kind, Refusal};
 use snapshot_blocks::{BLOCK, PER_BLOCK};
 use tables::{Capacities, get};
 
-// How long a file is.
 // The ids of a block's rows: how many there are in the lent list, and where the search for the next ones goes on.
 #[derive(Clone, Copy)]
 struct Gathered {
@@ -43,10 +42,7 @@ struct Gathered {
 fn is_stored(ids: usize, id_marks: &[u8], locations: &[u64], tallies: &[u64], id: usize) -> bool
     ensures { result ≡ stored_in ids id_marks.now locations.now tallies.now id }
 {
-    if get(locations, 0, id) == 0 {
-        return false;
-    }
-    tables::held_id(ids, id_marks, tallies, id as u64)
+    get(locations, 0, id) != 0 && tables::held_id(ids, id_marks, tallies, id as u64)
 }
 
 // One more where there is a row.
@@ -62,12 +58,9 @@ fn count(ids: usize, id_marks: &[u8], locations: &[u64], tallies: &[u64]) -> usi
     ensures { result
         ≡ length (those_from (stored_in ids id_marks.now locations.now tallies.now) ids 0) }
 {
-    let mut n: usize = 0;
-    let mut i: usize = 0;
-    while i < ids {
-        let stored = is_stored(ids, id_marks, locations, tallies, i);
-        n = after(n, stored);
-        i += 1;
+    let mut n = 0;
+    for i in 0..ids {
+        n = after(n, is_stored(ids, id_marks, locations, tallies, i));
     }
     n
 }
@@ -76,7 +69,7 @@ fn count(ids: usize, id_marks: &[u8], locations: &[u64], tallies: &[u64]) -> usi
 fn full_blocks(rows: usize) -> usize
     ensures { result ≡ (rows - 1) / 5 }
 {
-    if rows == 0 { 0 } else { (rows - 1) / PER_BLOCK }
+    rows.saturating_sub(1) / PER_BLOCK
 }
 
 fn file_length(rows: usize) -> usize
@@ -133,11 +126,15 @@ fn bad_row(
         ≡ (stored
         && not_own slots locations.now slot_marks.now owners.now tallies.now id) }
 {
-    if !stored {
-        return false;
-    }
-    let location = get(locations, 0, id);
-    tables::bad_location(slots, slot_marks, owners, tallies, id as u64, location)
+    stored
+        && tables::bad_location(
+            slots,
+            slot_marks,
+            owners,
+            tallies,
+            id as u64,
+            get(locations, 0, id),
+        )
 }
 
 // The first row whose location is bad, by its index among the rows.
@@ -157,15 +154,13 @@ fn first_bad(
 {
     let ids = caps.ids;
     let slots = caps.slots;
-    let mut row: usize = 0;
-    let mut i: usize = 0;
-    while i < ids {
+    let mut row = 0;
+    for i in 0..ids {
         let stored = is_stored(ids, id_marks, locations, tallies, i);
         if bad_row(stored, slots, locations, slot_marks, owners, tallies, i) {
             return Err(Refusal::at(Kind::TablesDisagree, row));
         }
         row = after(row, stored);
-        i += 1;
     }
     Ok(())
 }
@@ -190,7 +185,7 @@ fn gather(
         ≡ drop 5
         (those_from (stored_in ids id_marks.now locations.now tallies.now) (ids - from) from))) }
 {
-    let mut n: usize = 0;
+    let mut n = 0;
     let mut i = from;
     while i < ids && n < PER_BLOCK {
         let stored = is_stored(ids, id_marks, locations, tallies, i);
@@ -258,11 +253,9 @@ fn put_blocks(
         (those_from (stored_in ids id_marks.now locations.now tallies.now) ids 0)) }
 {
     let last = full_blocks(rows);
-    let mut from: usize = 0;
-    let mut k: usize = 0;
-    while k < last {
+    let mut from = 0;
+    for k in 0..last {
         from = put_block(ids, id_marks, locations, tallies, carried, k, from, file);
-        k += 1;
     }
     put_block(ids, id_marks, locations, tallies, carried, last, from, file);
 }
@@ -311,10 +304,7 @@ pub fn snapshot_write(
     if get(batch, 0, 0) != 0 {
         return Err(Refusal::of(Kind::BatchOpen));
     }
-    let judged = first_bad(caps, id_marks, locations, slot_marks, owners, tallies);
-    if let Err(refusal) = judged {
-        return Err(refusal);
-    }
+    first_bad(caps, id_marks, locations, slot_marks, owners, tallies)?;
     put_blocks(ids, id_marks, locations, tallies, carried, rows, file);
     Ok(())
 }

@@ -6,7 +6,4 @@ use Rattle.snapshot_blocks.specs.Blocks.{entries_in, any_refused}
 use Rattle.snapshot_blocks.proofs.any_refused.Given as goal
 
 abbrev pub invariant-loop-i : goal.invariant-loop-i
-invariant-loop-i l = (l.start ≡ 96 * l.i) × (any_refused version2 (entries_in version2 (l.count - l.i) (drop l.start l.rows)) ≡ any_refused version2 (entries_in version2 l.count l.rows))
-
-abbrev pub decreases-loop-i : goal.decreases-loop-i
-decreases-loop-i l = l.count - l.i
+invariant-loop-i l = any_refused version2 (entries_in version2 (l.count - l.i) (drop (96 * l.i) l.rows)) ≡ any_refused version2 (entries_in version2 l.count l.rows)

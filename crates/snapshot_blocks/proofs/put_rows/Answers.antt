@@ -20,7 +20,7 @@ loop-i-preserved c =
     let a = c.args in
     let v = c.loop-i in
     let r = c.requires.2 v.i c.loop-i-test.true in
-    let after = rw c.start_of-start.ensures at c.put_row.ensures in
+    let after = rw c.start_of.ensures at c.put_row.ensures in
     let row = row_bytes (entry_for 80 a.locations.now a.carried.now (get_or a.ids.now v.i 0)) in
     (search rules, search rules, laid_turn (entry_for 80 a.locations.now a.carried.now) a.ids.now a.block.now v.block _ row v.i c.loop-i-test.true (omega (arith, c.requires.0, c.requires.1)) v.invariant.2 (length_row_for a.locations.now a.carried.now _ r.1) refl after)
 

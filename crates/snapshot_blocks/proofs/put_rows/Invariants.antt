@@ -1,5 +1,5 @@
 use mathlib.Core.Path.{◌≡◌}
-use Prim.Native.Nat.{◌-◌, ◌≤◌}
+use Prim.Native.Nat.{◌≤◌}
 use lib.ListN.{length}
 use Rattle.snapshot_blocks.specs.Blocks.{entry_for}
 use Rattle.snapshot_blocks.proofs.Writing.{Laid}
@@ -7,6 +7,3 @@ use Rattle.snapshot_blocks.proofs.put_rows.Given as goal
 
 abbrev pub invariant-loop-i : goal.invariant-loop-i
 invariant-loop-i l = (l.i ≤ length l.ids) × (length l.block ≡ length l.initial.block) × Laid (entry_for 80 l.locations l.carried) l.ids l.initial.block l.i l.block
-
-abbrev pub decreases-loop-i : goal.decreases-loop-i
-decreases-loop-i l = length l.ids - l.i

@@ -21,8 +21,8 @@ loop-i-preserved c =
     let a = c.args in
     let l = c.loop-i in
     let t = c.loop-i-test.true in (
-      (after_le l.n l.i c.after-n.result c.is_stored-stored.result l.invariant.0.0 c.after-n.ensures, omega (arith, t)),
-      count_turn (stored_in a.ids a.id_marks.now a.locations.now a.tallies.now) a.ids l.i l.n c.after-n.result c.is_stored-stored.result t c.is_stored-stored.ensures c.after-n.ensures ∙ l.invariant.1,
+      (after_le l.n l.i c.after-n.result c.is_stored.result l.invariant.0.0 c.after-n.ensures, omega (arith, t)),
+      count_turn (stored_in a.ids a.id_marks.now a.locations.now a.tallies.now) a.ids l.i l.n c.after-n.result c.is_stored.result t c.is_stored.ensures c.after-n.ensures ∙ l.invariant.1,
     )
 
 pub returns : goal.returns

@@ -8,6 +8,3 @@ use Rattle.snapshot_writer.proofs.count.Given as goal
 abbrev pub invariant-loop-i : goal.invariant-loop-i
 invariant-loop-i l =
     ((l.n ≤ l.i) × (l.i ≤ l.ids)) × (l.n + length (those_from (stored_in l.ids l.id_marks l.locations l.tallies) (l.ids - l.i) l.i) ≡ length (those_from (stored_in l.ids l.id_marks l.locations l.tallies) l.ids 0))
-
-abbrev pub decreases-loop-i : goal.decreases-loop-i
-decreases-loop-i l = l.ids - l.i

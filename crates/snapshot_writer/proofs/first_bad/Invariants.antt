@@ -9,6 +9,3 @@ invariant-loop-i l =
     ((l.row ≤ l.i) × (l.i ≤ l.ids))
     × (snapshot_rows (not_own l.slots l.locations l.slot_marks l.owners l.tallies) l.row (those_from (stored_in l.ids l.id_marks l.locations l.tallies) (l.ids - l.i) l.i)
     ≡ snapshot_rows (not_own l.slots l.locations l.slot_marks l.owners l.tallies) 0 (those_from (stored_in l.ids l.id_marks l.locations l.tallies) l.ids 0))
-
-abbrev pub decreases-loop-i : goal.decreases-loop-i
-decreases-loop-i l = l.ids - l.i

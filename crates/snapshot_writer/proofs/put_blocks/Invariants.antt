@@ -16,6 +16,3 @@ invariant-loop-k l =
     × ((those_from (stored_in l.ids l.id_marks l.locations l.tallies) (l.ids - l.from) l.from ≡ drop (5 * l.k) (those_from (stored_in l.ids l.id_marks l.locations l.tallies) l.ids 0))
     × (take (512 * l.k) l.file ++ rest (entry_for 80 l.locations l.carried) (those_from (stored_in l.ids l.id_marks l.locations l.tallies) l.ids 0) l.last l.k
     ≡ file_of version2 (map (entry_for 80 l.locations l.carried) (those_from (stored_in l.ids l.id_marks l.locations l.tallies) l.ids 0))))
-
-abbrev pub decreases-loop-k : goal.decreases-loop-k
-decreases-loop-k l = l.last - l.k
