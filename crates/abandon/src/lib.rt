@@ -24,7 +24,12 @@ use refusal::{Kind, Refusal};
 use tables::{Capacities, FREED, HINT, KEPT_LOCATIONS};
 
 // How many kept updates are to be abandoned, or why none. Nothing is written.
-fn check(caps: Capacities, slot_marks: &[u8], batch: &[u64], tallies: &[u64]) -> Result<usize, Refusal>
+fn check(
+    caps: Capacities,
+    slot_marks: &[u8],
+    batch: &[u64],
+    tallies: &[u64],
+) -> Result<usize, Refusal>
     ensures { result
         ≡ rows_as (refusal (read (lent_to abandon caps.ids caps.slots
         slot_marks.now
