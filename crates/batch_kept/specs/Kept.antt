@@ -51,11 +51,6 @@ abbrev pub rows_as : Verdict → ℕ → Result ℕ Refusal
 rows_as ok n = Ok n
 rows_as (refuse kind index) n = Err (refusal kind index)
 
--- how many updates come before the one that is refused; all of them where none is
-abbrev pub rows_before : Result ℕ Refusal → ℕ
-rows_before (Ok n) = n
-rows_before (Err r) = r.index
-
 -- what stands at an address, by its allocator and its slot, and d where there is none
 abbrev pub by_address : {A : Type 0} → (ℕ → ℕ → A) → A → Result (Option SlabAddress) Refusal → A
 by_address f d (Ok (Some a)) = f (suc a.slab) a.slot

@@ -32,7 +32,7 @@ pub fn opened(batch: &[u64]) -> Result<usize, Refusal>
 
 // Whether a kept update's id, or its new location, is out of range. Location 0 is a Free's.
 #[tactic(auto, unfolding(crate::specs::Kept::bad_kept))]
-fn bad_kept(ids: usize, slots: usize, id: u64, location: u64) -> bool
+pub fn bad_kept(ids: usize, slots: usize, id: u64, location: u64) -> bool
     ensures { result ≡ bad_kept ids slots id location }
 {
     !(0 < id && id < ids as u64) || SlabAddress::unpack(slots, location).is_err()

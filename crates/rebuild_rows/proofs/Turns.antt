@@ -37,11 +37,6 @@ is_at_unpacked slots l b = rw b (go (eqb l 0) refl (is_location slots l) refl)
     go false e true f = refl
     go false e false f = refl
 
-pub at_none : (u : Result (Option SlabAddress) Refusal) → ((a : SlabAddress) → u ≡ Ok (Some a) → ⊥) → is_at u ≡ false
-at_none (Ok (Some a)) n = absurd (n a refl)
-at_none (Ok None) n = refl
-at_none (Err r) n = refl
-
 -- ---- rows that are left
 
 -- from row i on

@@ -8,12 +8,6 @@ use Rattle.release.proofs.Laws.{start_within, release_turn, release_end}
 use borrow.Author.Rules.{rules}
 use Rattle.release.proofs.release_slabs.Goals as goal
 
-pub loop-slab-init : goal.loop-slab-init
-loop-slab-init c = (search rules, search rules, refl)
-
-pub overflow_add-end : goal.overflow_add-end
-overflow_add-end c = let w = start_within c.args.slots c.loop-slab.slab _ refl (omega arith) in omega arith
-
 pub slice_bounds-release_allocator-end : goal.slice_bounds-release_allocator-end
 slice_bounds-release_allocator-end c = let w = start_within c.args.slots c.loop-slab.slab _ refl (omega arith) in omega arith
 
