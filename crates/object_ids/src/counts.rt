@@ -78,12 +78,8 @@ pub fn counters(
     if freed.len() != ALLOCATORS {
         return Err(Refusal::of(Kind::WrongShape));
     }
-    match stats(caps, tallies) {
-        Ok(stats) => {
-            copy_words(tallies, tables::GRANTED, granted);
-            copy_words(tallies, tables::FREED, freed);
-            Ok(stats)
-        }
-        Err(refusal) => Err(refusal),
-    }
+    let stats = stats(caps, tallies)?;
+    copy_words(tallies, tables::GRANTED, granted);
+    copy_words(tallies, tables::FREED, freed);
+    Ok(stats)
 }
