@@ -12,11 +12,21 @@ mod slots;
 mod snapshots;
 
 use replay_words::file;
+use replay_words::file::Judge;
+use replay_words::line::Line;
 use std::io;
 
-fn main(rt: HostRuntime) -> io::Result<()> {
-    for name in ["leaves.words", "cutoffs.words", "snapshots.words"] {
-        file::replay(&rt, name, kinds::agrees)?;
+// The single calls.
+struct Calls;
+
+impl Judge for Calls {
+    fn agrees(&mut self, line: Line) -> bool {
+        kinds::agrees(line)
     }
-    Ok(())
+}
+
+fn main(rt: HostRuntime) -> io::Result<()> {
+    file::replay(&rt, b"leaves.words", &mut Calls)?;
+    file::replay(&rt, b"cutoffs.words", &mut Calls)?;
+    file::replay(&rt, b"snapshots.words", &mut Calls)
 }

@@ -20,8 +20,7 @@ mod store;
 use std::io;
 
 fn main(rt: HostRuntime) -> io::Result<()> {
-    for name in ["stores.words", "files.words", "tables.words"] {
-        store::replay(&rt, name)?;
-    }
-    Ok(())
+    store::replay(&rt, b"stores.words")?;
+    store::replay(&rt, b"files.words")?;
+    store::replay(&rt, b"tables.words")
 }

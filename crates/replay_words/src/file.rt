@@ -6,7 +6,7 @@ use crate::line::{Line, Lines};
 use crate::tally::Tally;
 use std::io::Read;
 use std::rt::Files;
-use std::{fs, io};
+use std::{fs, io, str};
 
 // Longer than any file. Of a longer one the end would not be read, and the counts of calls would show it.
 const LONGEST: usize = 1048576;
@@ -17,6 +17,14 @@ pub fn space() -> [u8; LONGEST]
     ensures len { 1048576 ≡ length result }
 {
     [0; LONGEST]
+}
+
+// A name that is no text is no file's here, since std names files by text alone.
+fn open<R: Files>(rt: &R, name: &[u8]) -> io::Result<R::File> {
+    match str::from_utf8(name) {
+        Ok(path) => fs::open(rt, path),
+        Err(_) => Err(io::Error::from(io::ErrorKind::InvalidInput)),
+    }
 }
 
 // Reads until the space is full or the file ends, and answers how many bytes it has. A `while`, since only a read says how far it came.
@@ -34,37 +42,38 @@ fn read_full(file: &mut impl Read, space: &mut [u8]) -> io::Result<usize>
     Ok(done)
 }
 
-// Reads the file into the space, and answers what it has of it; nothing where it cannot be opened, which standard error says. Which bytes
-// these are no contract can say.
-pub fn load<'a>(rt: &(impl Files + Eprint), name: &str, space: &'a mut [u8]) -> io::Result<&'a [u8]>
-    ensures { IfOk result (λ text. length text.now ≤ length space.entry.now) }
+// Reads the file into the space, and answers how many bytes it has; 0 where it cannot be opened, which standard error says. Which bytes these
+// are no contract can say; an error of the read leaves the space as long as it was.
+pub fn load(rt: &(impl Files + Eprint), name: &[u8], space: &mut [u8]) -> io::Result<usize>
+    ensures count { IfOk result (λ n. n ≤ length space.new) }
+    ensures kept { length space.new ≡ length space.old }
 {
-    match fs::open(rt, name) {
-        Ok(mut file) => {
-            let n = read_full(&mut file, space)?;
-            Ok(&space[..n])
-        }
+    match open(rt, name) {
+        Ok(mut file) => read_full(&mut file, space),
         Err(error) => {
-            eprintln!(rt; "{name}: {error}")?;
-            Ok(&[])
+            eprintln!(rt; "{}: {error}", name.escape_ascii())?;
+            Ok(0)
         }
     }
 }
 
-// Asks of each line of the file of this name whether it agrees, and says how many do not.
-pub fn replay<F: FnMut(Line) -> bool>(
+// What a program asks of each line of its lists.
+pub trait Judge {
+    // Whether the line agrees with what the library answers.
+    fn agrees(&mut self, line: Line) -> bool;
+}
+
+// Has each line of the file of this name judged, and says how many do not agree.
+pub fn replay(
     rt: &(impl Files + Print + Eprint),
-    name: &str,
-    mut agrees: F,
-) -> io::Result<()>
-    requires { F.IsAlwaysCallable agrees }
-{
+    name: &[u8],
+    judge: &mut impl Judge,
+) -> io::Result<()> {
     let mut space = space();
+    let n = load(rt, name, &mut space)?;
     let mut tally = Tally::new();
-    for line in (Lines {
-        left: load(rt, name, &mut space)?,
-    }) {
-        tally = tally.with_line(rt, name, line, agrees(line))?;
+    for line in (Lines { left: &space[..n] }) {
+        tally = tally.with_line(rt, name, line, judge.agrees(line))?;
     }
     tally.say(rt, name)?;
     Ok(())

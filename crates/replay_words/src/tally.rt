@@ -36,7 +36,7 @@ impl Tally {
     pub fn with_line(
         self,
         rt: &impl Print,
-        name: &str,
+        name: &[u8],
         line: Line,
         agrees: bool,
     ) -> io::Result<Tally>
@@ -44,7 +44,8 @@ impl Tally {
     {
         if !agrees && self.differences < NAMED {
             let number = line.number();
-            println!(rt; "{name}: line {number} of its list differs")?;
+            rt.write_all(name)?;
+            println!(rt; ": line {number} of its list differs")?;
         }
         let source = line.source();
         Ok(Tally {
@@ -55,10 +56,11 @@ impl Tally {
     }
 
     // Says them, and answers how many differences there are.
-    pub fn say(self, rt: &impl Print, name: &str) -> io::Result<u64>
+    pub fn say(self, rt: &impl Print, name: &[u8]) -> io::Result<u64>
         ensures { IfOk result (λ n. n ≡ self.differences) }
     {
-        println!(rt; "{name}: {self}")?;
+        rt.write_all(name)?;
+        println!(rt; ": {self}")?;
         Ok(self.differences)
     }
 }
