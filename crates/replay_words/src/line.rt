@@ -10,8 +10,10 @@ ghost use Rattle.replay_words.specs.Rows.{column_of, column_is, says};
 pub enum Source {
     // The line is no call.
     NoCall,
-    Rust,
     Model,
+    Rust,
+    // No line of the oracle's lists says so.
+    Nobody,
 }
 
 impl From<u64> for Source {
@@ -20,8 +22,9 @@ impl From<u64> for Source {
     fn from(number: u64) -> Source {
         match number {
             0 => Source::NoCall,
+            1 => Source::Model,
             2 => Source::Rust,
-            _ => Source::Model,
+            _ => Source::Nobody,
         }
     }
 }

@@ -22,7 +22,7 @@ fn say_verified(rt: &impl Print, v: Result<(), Refusal>) -> io::Result<()> {
 
 fn cookie(rt: &impl Print, leaf_fanout: u64) -> io::Result<()> {
     let mut bytes = [255; LENGTH];
-    PersistentSettings::serialize(leaf_fanout, &mut bytes);
+    let _ = PersistentSettings::serialize(leaf_fanout, &mut bytes);
     print!(rt; "cookie {leaf_fanout} {}", Hex(&bytes))?;
     say_read(rt, PersistentSettings::deserialize(&bytes))?;
     say_verified(rt, PersistentSettings::verify(&bytes, leaf_fanout))?;
@@ -44,7 +44,7 @@ fn lent(rt: &impl Print, space: &mut [u8]) -> io::Result<()> {
 // The same where a cookie stands there already, with bytes after it.
 fn longer(rt: &impl Print, space: &mut [u8]) -> io::Result<()> {
     if let Some(cookie) = space.get_mut(..LENGTH) {
-        PersistentSettings::serialize(7, cookie);
+        let _ = PersistentSettings::serialize(7, cookie);
     }
     lent(rt, space)
 }
@@ -52,7 +52,7 @@ fn longer(rt: &impl Print, space: &mut [u8]) -> io::Result<()> {
 // A good cookie with a number put into it.
 fn with_number(start: usize, end: usize, n: u64) -> [u8; LENGTH] {
     let mut bytes = [0; LENGTH];
-    PersistentSettings::serialize(1024, &mut bytes);
+    let _ = PersistentSettings::serialize(1024, &mut bytes);
     little_endian::put_at(&mut bytes, start, end, n);
     bytes
 }

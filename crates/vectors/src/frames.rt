@@ -45,7 +45,7 @@ fn flip(slot: &mut [u8], at: usize) {
 // One byte of a written slot is changed.
 fn damaged(rt: &impl Print, at: usize) -> io::Result<()> {
     let mut slot = [0; 64];
-    Slab::write(&mut slot, b"face");
+    let _ = Slab::write(&mut slot, b"face");
     flip(&mut slot, at);
     print!(rt; "damaged 64 {at}")?;
     say_verdict(rt, Slab::verdict(&slot))?;
@@ -72,7 +72,7 @@ fn stored(
 fn gap(rt: &(impl Print + AllocGlobal), size: usize, n: usize, at: usize) -> io::Result<()> {
     let mut slot = vec![in rt.alloc(); 0; size]?;
     let object = pattern(rt.alloc(), n)?;
-    Slab::write(&mut slot, &object);
+    let _ = Slab::write(&mut slot, &object);
     flip(&mut slot, at);
     seal::write(&mut slot);
     print!(rt; "gap {size} {n} {at}")?;
@@ -96,7 +96,7 @@ fn gaps(
 
 fn three_bytes(rt: &impl Print) -> io::Result<()> {
     let mut slot = [255; 64];
-    Slab::write(&mut slot, &[1, 2, 3]);
+    let _ = Slab::write(&mut slot, &[1, 2, 3]);
     println!(rt; "three-bytes {}", Hex(&slot))
 }
 

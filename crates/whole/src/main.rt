@@ -38,7 +38,7 @@ impl Store {
             slots: SLOTS,
         };
         let mut tables = OwnedTables::zeroed(alloc, caps)?;
-        rebuild::fresh(
+        let _ = rebuild::fresh(
             caps,
             &mut tables.id_marks,
             &mut tables.locations,
@@ -53,7 +53,7 @@ impl Store {
 
     fn allocate_id(&mut self) {
         let tables = &mut self.0;
-        object_ids::allocate_object_id(
+        let _ = object_ids::allocate_object_id(
             tables.caps,
             &mut tables.id_marks,
             &tables.batch,
@@ -64,7 +64,7 @@ impl Store {
     fn offer(&mut self, alloc: Global, ids: &[u64], update: Update) -> Result<(), AllocError> {
         let count = ids.len();
         let tables = &mut self.0;
-        offer::offer(
+        let _ = offer::offer(
             tables.caps,
             &tables.id_marks,
             &tables.locations,
@@ -84,7 +84,7 @@ impl Store {
 
     fn commit(&mut self) {
         let tables = &mut self.0;
-        commit::commit(
+        let _ = commit::commit(
             tables.caps,
             &mut tables.id_marks,
             &mut tables.locations,
@@ -98,7 +98,7 @@ impl Store {
 
     fn release(&mut self) {
         let tables = &mut self.0;
-        release::release(
+        let _ = release::release(
             tables.caps,
             &mut tables.id_marks,
             &mut tables.slot_marks,
