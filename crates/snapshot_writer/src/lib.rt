@@ -37,12 +37,13 @@ struct Gathered {
     next: usize,
 }
 
-// ---- which ids have a row
-
-fn is_stored(ids: usize, id_marks: &[u8], locations: &[u64], tallies: &[u64], id: usize) -> bool
-    ensures { result ≡ stored_in ids id_marks.now locations.now tallies.now id }
-{
-    get(locations, 0, id) != 0 && tables::held_id(ids, id_marks, tallies, id as u64)
+// The lent tables that say which ids have a row.
+#[derive(Clone, Copy)]
+struct Stored<'a> {
+    ids: usize,
+    id_marks: &'a [u8],
+    locations: &'a [u64],
+    tallies: &'a [u64],
 }
 
 // One more where there is a row.
@@ -51,18 +52,6 @@ fn after(n: usize, stored: bool) -> usize
     ensures { result ≡ n + cond stored 1 0 }
 {
     if stored { n + 1 } else { n }
-}
-
-fn count(ids: usize, id_marks: &[u8], locations: &[u64], tallies: &[u64]) -> usize
-    requires { ids ≤ 65536 }
-    ensures { result
-        ≡ length (those_from (stored_in ids id_marks.now locations.now tallies.now) ids 0) }
-{
-    let mut n = 0;
-    for i in 0..ids {
-        n = after(n, is_stored(ids, id_marks, locations, tallies, i));
-    }
-    n
 }
 
 // How many full blocks come before the last.
@@ -106,158 +95,143 @@ pub fn snapshot_length(
     if get(batch, 0, 0) != 0 {
         return Err(Refusal::of(Kind::BatchOpen));
     }
-    let rows = count(caps.ids, id_marks, locations, tallies);
+    let stored = Stored {
+        ids: caps.ids,
+        id_marks,
+        locations,
+        tallies,
+    };
+    let rows = stored.count();
     Ok(file_length(rows))
 }
 
-// ---- refusal 13
+impl Stored<'_> {
+    // Whether an id has a row.
+    fn has(self, id: usize) -> bool
+        ensures { result ≡ stored_in self.entry.ids self.entry.id_marks.now self.entry.locations.now self.entry.tallies.now id }
+    {
+        get(self.locations, 0, id) != 0
+            && tables::held_id(self.ids, self.id_marks, self.tallies, id as u64)
+    }
 
-// Whether an id has a row, and a location that cannot be its own.
-fn bad_row(
-    stored: bool,
-    slots: usize,
-    locations: &[u64],
-    slot_marks: &[u8],
-    owners: &[u64],
-    tallies: &[u64],
-    id: usize,
-) -> bool
-    ensures { result
-        ≡ (stored
-        && not_own slots locations.now slot_marks.now owners.now tallies.now id) }
-{
-    stored
-        && tables::bad_location(
-            slots,
-            slot_marks,
-            owners,
-            tallies,
-            id as u64,
-            get(locations, 0, id),
-        )
-}
-
-// The first row whose location is bad, by its index among the rows.
-fn first_bad(
-    caps: Capacities,
-    id_marks: &[u8],
-    locations: &[u64],
-    slot_marks: &[u8],
-    owners: &[u64],
-    tallies: &[u64],
-) -> Result<(), Refusal>
-    requires { caps.ids ≤ 65536 }
-    ensures { judged_verdict result
-        ≡ snapshot_rows
-        (not_own caps.slots locations.now slot_marks.now owners.now tallies.now) 0
-        (those_from (stored_in caps.ids id_marks.now locations.now tallies.now) caps.ids 0) }
-{
-    let ids = caps.ids;
-    let slots = caps.slots;
-    let mut row = 0;
-    for i in 0..ids {
-        let stored = is_stored(ids, id_marks, locations, tallies, i);
-        if bad_row(stored, slots, locations, slot_marks, owners, tallies, i) {
-            return Err(Refusal::at(Kind::TablesDisagree, row));
+    // How many ids have a row.
+    fn count(self) -> usize
+        requires { self.ids ≤ 65536 }
+        ensures { result ≡ length (those_from (stored_in self.entry.ids self.entry.id_marks.now self.entry.locations.now self.entry.tallies.now) self.entry.ids 0) }
+    {
+        let mut n = 0;
+        for i in 0..self.ids {
+            n = after(n, self.has(i));
         }
-        row = after(row, stored);
+        n
     }
-    Ok(())
-}
 
-// ---- writing
+    // ---- refusal 13
 
-// The ids of the next rows, as many as a block takes, from id `from` on. Each id is stored, and counted only where it has a row: so no
-// branch waits for a mark.
-fn gather(
-    ids: usize,
-    id_marks: &[u8],
-    locations: &[u64],
-    tallies: &[u64],
-    from: usize,
-    list: &mut [u64],
-) -> Gathered
-    requires { (length list.old ≡ 5) × ((ids ≤ 65536) × (from ≤ ids)) }
-    ensures { ((result.count ≤ 5) × (result.next ≤ ids))
-        × ((take result.count list.new
-        ≡ take 5 (those_from (stored_in ids id_marks.now locations.now tallies.now) (ids - from) from))
-        × (those_from (stored_in ids id_marks.now locations.now tallies.now) (ids - result.next) result.next
-        ≡ drop 5
-        (those_from (stored_in ids id_marks.now locations.now tallies.now) (ids - from) from))) }
-{
-    let mut n = 0;
-    let mut i = from;
-    while i < ids && n < PER_BLOCK {
-        let stored = is_stored(ids, id_marks, locations, tallies, i);
-        list[n] = i as u64;
-        n = after(n, stored);
-        i += 1;
+    // Whether an id has a row, as `stored` says, and a location that cannot be its own.
+    fn bad_row(
+        self,
+        stored: bool,
+        slots: usize,
+        slot_marks: &[u8],
+        owners: &[u64],
+        id: usize,
+    ) -> bool
+        ensures { result ≡ (stored && not_own slots self.entry.locations.now slot_marks.now owners.now self.entry.tallies.now id) }
+    {
+        stored
+            && tables::bad_location(
+                slots,
+                slot_marks,
+                owners,
+                self.tallies,
+                id as u64,
+                get(self.locations, 0, id),
+            )
     }
-    Gathered { count: n, next: i }
-}
 
-// Writes the block at `number`: the next rows from id `from` on. The answer is where the rows after them start.
-fn put_block(
-    ids: usize,
-    id_marks: &[u8],
-    locations: &[u64],
-    tallies: &[u64],
-    carried: &[u8],
-    number: usize,
-    from: usize,
-    file: &mut [u8],
-) -> usize
-    requires { ((ids ≤ 65536) × (from ≤ ids))
-        × (((length locations.now ≡ ids) × (ids * 80 ≤ length carried.now))
-        × ((number ≤ 65536) × (512 * number + 512 ≤ length file.old))) }
-    ensures { (result ≤ ids)
-        × ((those_from (stored_in ids id_marks.now locations.now tallies.now) (ids - result) result
-        ≡ drop 5 (those_from (stored_in ids id_marks.now locations.now tallies.now) (ids - from) from))
-        × (file.new
-        ≡ block_put number
-        (map (entry_for 80 locations.now carried.now)
-        (take 5 (those_from (stored_in ids id_marks.now locations.now tallies.now) (ids - from) from)))
-        file.old)) }
-{
-    let mut list = [0u64; PER_BLOCK];
-    let found = gather(ids, id_marks, locations, tallies, from, &mut list);
-    let count = found.count;
-    let at = BLOCK * number;
-    let past = at + BLOCK;
-    snapshot_blocks::write(
-        number as u64,
-        &list[..count],
-        locations,
-        carried,
-        &mut file[at..past],
-    );
-    found.next
-}
-
-// Writes all blocks of a file of so many rows.
-fn put_blocks(
-    ids: usize,
-    id_marks: &[u8],
-    locations: &[u64],
-    tallies: &[u64],
-    carried: &[u8],
-    rows: usize,
-    file: &mut [u8],
-)
-    requires { ((ids ≤ 65536) × (rows ≡ length (those_from (stored_in ids id_marks.now locations.now tallies.now) ids 0)))
-        × (((length locations.now ≡ ids) × (ids * 80 ≤ length carried.now))
-        × (length file.old ≡ file_length version2 rows)) }
-    ensures { file.new
-        ≡ file_of version2
-        (map (entry_for 80 locations.now carried.now)
-        (those_from (stored_in ids id_marks.now locations.now tallies.now) ids 0)) }
-{
-    let last = full_blocks(rows);
-    let mut from = 0;
-    for k in 0..last {
-        from = put_block(ids, id_marks, locations, tallies, carried, k, from, file);
+    // The first row whose location is bad, by its index among the rows.
+    fn first_bad(self, slots: usize, slot_marks: &[u8], owners: &[u64]) -> Result<(), Refusal>
+        requires { self.ids ≤ 65536 }
+        ensures { judged_verdict result
+            ≡ snapshot_rows (not_own slots self.entry.locations.now slot_marks.now owners.now self.entry.tallies.now) 0
+            (those_from (stored_in self.entry.ids self.entry.id_marks.now self.entry.locations.now self.entry.tallies.now) self.entry.ids 0) }
+    {
+        let mut row = 0;
+        for i in 0..self.ids {
+            let stored = self.has(i);
+            if self.bad_row(stored, slots, slot_marks, owners, i) {
+                return Err(Refusal::at(Kind::TablesDisagree, row));
+            }
+            row = after(row, stored);
+        }
+        Ok(())
     }
-    put_block(ids, id_marks, locations, tallies, carried, last, from, file);
+
+    // ---- writing
+
+    // The ids of the next rows, as many as a block takes, from id `from` on. Each id is stored, and counted only where it has a row: so no
+    // branch waits for a mark. A `while`, since the caller goes on where it stopped.
+    fn gather(self, from: usize, list: &mut [u64]) -> Gathered
+        requires { (length list.old ≡ 5) × ((self.ids ≤ 65536) × (from ≤ self.ids)) }
+        ensures { ((result.count ≤ 5) × (result.next ≤ self.entry.ids))
+            × ((take result.count list.new ≡ take 5 (those_from (stored_in self.entry.ids self.entry.id_marks.now self.entry.locations.now self.entry.tallies.now) (self.entry.ids - from) from))
+            × (those_from (stored_in self.entry.ids self.entry.id_marks.now self.entry.locations.now self.entry.tallies.now) (self.entry.ids - result.next) result.next ≡ drop 5 (those_from (stored_in self.entry.ids self.entry.id_marks.now self.entry.locations.now self.entry.tallies.now) (self.entry.ids - from) from))) }
+    {
+        let mut n = 0;
+        let mut i = from;
+        while i < self.ids && n < PER_BLOCK {
+            let stored = self.has(i);
+            list[n] = i as u64;
+            n = after(n, stored);
+            i += 1;
+        }
+        Gathered { count: n, next: i }
+    }
+
+    // Writes the block at `number`: the next rows from id `from` on. The answer is where the rows after them start.
+    fn put_block(self, carried: &[u8], number: usize, from: usize, file: &mut [u8]) -> usize
+        requires { ((self.ids ≤ 65536) × (from ≤ self.ids))
+            × (((length self.locations.now ≡ self.ids) × (self.ids * 80 ≤ length carried.now))
+            × ((number ≤ 65536) × (512 * number + 512 ≤ length file.old))) }
+        ensures { (result ≤ self.entry.ids)
+            × ((those_from (stored_in self.entry.ids self.entry.id_marks.now self.entry.locations.now self.entry.tallies.now) (self.entry.ids - result) result ≡ drop 5 (those_from (stored_in self.entry.ids self.entry.id_marks.now self.entry.locations.now self.entry.tallies.now) (self.entry.ids - from) from))
+            × (file.new
+            ≡ block_put number
+            (map (entry_for 80 self.entry.locations.now carried.now) (take 5 (those_from (stored_in self.entry.ids self.entry.id_marks.now self.entry.locations.now self.entry.tallies.now) (self.entry.ids - from) from)))
+            file.old)) }
+    {
+        let mut list = [0u64; PER_BLOCK];
+        let found = self.gather(from, &mut list);
+        let count = found.count;
+        let at = BLOCK * number;
+        let past = at + BLOCK;
+        snapshot_blocks::write(
+            number as u64,
+            &list[..count],
+            self.locations,
+            carried,
+            &mut file[at..past],
+        );
+        found.next
+    }
+
+    // Writes all blocks of a file of so many rows.
+    fn put_blocks(self, carried: &[u8], rows: usize, file: &mut [u8])
+        requires { ((self.ids ≤ 65536) × (rows ≡ length (those_from (stored_in self.ids self.id_marks.now self.locations.now self.tallies.now) self.ids 0)))
+            × (((length self.locations.now ≡ self.ids) × (self.ids * 80 ≤ length carried.now))
+            × (length file.old ≡ file_length version2 rows)) }
+        ensures { file.new
+            ≡ file_of version2
+            (map (entry_for 80 self.entry.locations.now carried.now) (those_from (stored_in self.entry.ids self.entry.id_marks.now self.entry.locations.now self.entry.tallies.now) self.entry.ids 0)) }
+    {
+        let last = full_blocks(rows);
+        let mut from = 0;
+        for k in 0..last {
+            from = self.put_block(carried, k, from, file);
+        }
+        self.put_block(carried, last, from, file);
+    }
 }
 
 // The refusals in their order; then the blocks are written.
@@ -296,15 +270,20 @@ pub fn snapshot_write(
     ) {
         return Err(Refusal::of(Kind::WrongShape));
     }
-    let ids = caps.ids;
-    let rows = count(ids, id_marks, locations, tallies);
+    let stored = Stored {
+        ids: caps.ids,
+        id_marks,
+        locations,
+        tallies,
+    };
+    let rows = stored.count();
     if file.len() != file_length(rows) {
         return Err(Refusal::of(Kind::WrongShape));
     }
     if get(batch, 0, 0) != 0 {
         return Err(Refusal::of(Kind::BatchOpen));
     }
-    first_bad(caps, id_marks, locations, slot_marks, owners, tallies)?;
-    put_blocks(ids, id_marks, locations, tallies, carried, rows, file);
+    stored.first_bad(caps.slots, slot_marks, owners)?;
+    stored.put_blocks(carried, rows, file);
     Ok(())
 }

@@ -11,16 +11,16 @@ use Rattle.snapshot_writer.specs.Writer.{stored_in}
 use Rattle.snapshot_writer.proofs.LawsRows.{those_all, few_rows}
 use Rattle.snapshot_writer.proofs.LawsBlocks.{put_start, put_turn, put_last, next_rows, last_of, length_file, file_room, few_blocks}
 use borrow.Author.Rules.{rules}
-use Rattle.snapshot_writer.proofs.put_blocks.Goals as goal
+use Rattle.snapshot_writer.proofs.Stored.put_blocks.Goals as goal
 
 pub loop-k-init : goal.loop-k-init
 loop-k-init c =
     let a = c.args in
-    let p = stored_in a.ids a.id_marks.now a.locations.now a.tallies.now in (
+    let p = stored_in a.self.ids a.self.id_marks.now a.self.locations.now a.self.tallies.now in (
       (refl, (omega arith, omega arith)),
       (
-        those_all p a.ids,
-        put_start (entry_for 80 a.locations.now a.carried.now) (those_from p a.ids 0) c.full_blocks-last.result a.file.now (last_of c.full_blocks-last.result a.rows _ c.full_blocks-last.ensures c.requires.0.1),
+        those_all p a.self.ids,
+        put_start (entry_for 80 a.self.locations.now a.carried.now) (those_from p a.self.ids 0) c.full_blocks-last.result a.file.now (last_of c.full_blocks-last.result a.rows _ c.full_blocks-last.ensures c.requires.0.1),
       ),
     )
 
@@ -31,12 +31,12 @@ put_block-from-requires c =
     let l = c.loop-k in
     let v = l.invariant.0 in
     let f = c.full_blocks-last in
-    let p = stored_in a.ids a.id_marks.now a.locations.now a.tallies.now in (
+    let p = stored_in a.self.ids a.self.id_marks.now a.self.locations.now a.self.tallies.now in (
       (q.0.0, v.1.1),
       (
         q.1.0,
         (
-          few_blocks a.ids a.rows f.result l.k q.0.0 (few_rows p a.ids a.rows q.0.1) f.ensures v.1.0,
+          few_blocks a.self.ids a.rows f.result l.k q.0.0 (few_rows p a.self.ids a.rows q.0.1) f.ensures v.1.0,
           file_room a.rows f.result l.k (length l.file) f.ensures (v.0 ∙ q.1.1) v.1.0,
         ),
       ),
@@ -53,9 +53,9 @@ loop-k-preserved c =
     let w = c.put_block-from in
     let after : List ℕ = w.new.file in
     let n : length after ≡ length l.file = search rules in
-    let p = stored_in a.ids a.id_marks.now a.locations.now a.tallies.now in
-    let every = those_from p a.ids 0 in
-    let e = entry_for 80 a.locations.now a.carried.now in (
+    let p = stored_in a.self.ids a.self.id_marks.now a.self.locations.now a.self.tallies.now in
+    let every = those_from p a.self.ids 0 in
+    let e = entry_for 80 a.self.locations.now a.carried.now in (
       (n ∙ v.0.0, (omega (arith, t), w.ensures.0)),
       (
         next_rows e every l.k _ _ v.1.0 w.ensures.1.0,
@@ -70,13 +70,13 @@ put_block-requires c =
     let l = c.loop-k in
     let v = l.invariant.0 in
     let f = c.full_blocks-last in
-    let p = stored_in a.ids a.id_marks.now a.locations.now a.tallies.now in
+    let p = stored_in a.self.ids a.self.id_marks.now a.self.locations.now a.self.tallies.now in
     let r : f.result ≤ f.result = omega arith in (
       (q.0.0, v.1.1),
       (
         q.1.0,
         (
-          few_blocks a.ids a.rows f.result f.result q.0.0 (few_rows p a.ids a.rows q.0.1) f.ensures r,
+          few_blocks a.self.ids a.rows f.result f.result q.0.0 (few_rows p a.self.ids a.rows q.0.1) f.ensures r,
           file_room a.rows f.result f.result (length l.file) f.ensures (v.0 ∙ q.1.1) r,
         ),
       ),
@@ -90,7 +90,7 @@ returns c =
     let v = l.invariant in
     let f = c.full_blocks-last in
     let w = c.put_block in
-    let p = stored_in a.ids a.id_marks.now a.locations.now a.tallies.now in
-    let every = those_from p a.ids 0 in
-    put_last (entry_for 80 a.locations.now a.carried.now) every f.result l.k l.file _ _ c.loop-k-test.false v.0.1.0 (last_of f.result a.rows _ f.ensures q.0.1)
+    let p = stored_in a.self.ids a.self.id_marks.now a.self.locations.now a.self.tallies.now in
+    let every = those_from p a.self.ids 0 in
+    put_last (entry_for 80 a.self.locations.now a.carried.now) every f.result l.k l.file _ _ c.loop-k-test.false v.0.1.0 (last_of f.result a.rows _ f.ensures q.0.1)
     (v.0.0 ∙ q.1.1 ∙ length_file a.rows f.result f.ensures) v.1.0 w.ensures.1.1 ∙ v.1.1

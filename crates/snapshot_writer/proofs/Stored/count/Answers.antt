@@ -4,10 +4,10 @@ use mathlib.Core.Path.{◌∙◌}
 use native.Mathlib.Omega.{arith}
 use Rattle.snapshot_writer.specs.Writer.{stored_in}
 use Rattle.snapshot_writer.proofs.LawsRows.{count_start, count_turn, count_done, after_le}
-use Rattle.snapshot_writer.proofs.count.Goals as goal
+use Rattle.snapshot_writer.proofs.Stored.count.Goals as goal
 
 pub loop-i-init : goal.loop-i-init
-loop-i-init c = let a = c.args in ((omega arith, omega arith), count_start (stored_in a.ids a.id_marks.now a.locations.now a.tallies.now) a.ids)
+loop-i-init c = let a = c.args in ((omega arith, omega arith), count_start (stored_in a.self.ids a.self.id_marks.now a.self.locations.now a.self.tallies.now) a.self.ids)
 
 pub after-n-requires : goal.after-n-requires
 after-n-requires c =
@@ -21,12 +21,12 @@ loop-i-preserved c =
     let a = c.args in
     let l = c.loop-i in
     let t = c.loop-i-test.true in (
-      (after_le l.n l.i c.after-n.result c.is_stored.result l.invariant.0.0 c.after-n.ensures, omega (arith, t)),
-      count_turn (stored_in a.ids a.id_marks.now a.locations.now a.tallies.now) a.ids l.i l.n c.after-n.result c.is_stored.result t c.is_stored.ensures c.after-n.ensures ∙ l.invariant.1,
+      (after_le l.n l.i c.after-n.result c.has.result l.invariant.0.0 c.after-n.ensures, omega (arith, t)),
+      count_turn (stored_in a.self.ids a.self.id_marks.now a.self.locations.now a.self.tallies.now) a.self.ids l.i l.n c.after-n.result c.has.result t c.has.ensures c.after-n.ensures ∙ l.invariant.1,
     )
 
 pub returns : goal.returns
 returns c =
     let a = c.args in
     let l = c.loop-i in
-    count_done (stored_in a.ids a.id_marks.now a.locations.now a.tallies.now) a.ids l.i l.n (omega (arith, c.loop-i-test.false)) ∙ l.invariant.1
+    count_done (stored_in a.self.ids a.self.id_marks.now a.self.locations.now a.self.tallies.now) a.self.ids l.i l.n (omega (arith, c.loop-i-test.false)) ∙ l.invariant.1

@@ -11,7 +11,7 @@ use Rattle.snapshot_writer.specs.Writer.{stored_in}
 use Rattle.snapshot_writer.proofs.LawsRows.{those_rows}
 use Rattle.snapshot_writer.proofs.LawsBlocks.{block_length, block_put_lem}
 use borrow.Author.Rules.{rules}
-use Rattle.snapshot_writer.proofs.put_block.Goals as goal
+use Rattle.snapshot_writer.proofs.Stored.put_block.Goals as goal
 
 pub slice_bounds-write-end : goal.slice_bounds-write-end
 slice_bounds-write-end c =
@@ -30,11 +30,11 @@ returns c =
     let ids = take g.result.count list in
     let n : g.result.count ≤ length list = search rules in
     let few : length ids ≤ 5 = omega (arith, length-take-le g.result.count list n, g.ensures.0.0) in
-    let are = those_rows (stored_in a.ids a.id_marks.now a.locations.now a.tallies.now) a.ids a.from a.locations.now a.carried.now ids p.0.1 p.1.0.0 p.1.0.1 g.ensures.1.0 in
-    let can = rows_can_write ids a.locations.now a.carried.now _ few (block_length a.number a.file.now p.1.1.1) are in (
+    let are = those_rows (stored_in a.self.ids a.self.id_marks.now a.self.locations.now a.self.tallies.now) a.self.ids a.from a.self.locations.now a.carried.now ids p.0.1 p.1.0.0 p.1.0.1 g.ensures.1.0 in
+    let can = rows_can_write ids a.self.locations.now a.carried.now _ few (block_length a.number a.file.now p.1.1.1) are in (
       g.ensures.0.1,
       (
         g.ensures.1.1,
-        block_put_lem (entry_for 80 a.locations.now a.carried.now) a.number a.file.now w.new.block ids _ (rw can at w.ensures) g.ensures.1.0,
+        block_put_lem (entry_for 80 a.self.locations.now a.carried.now) a.number a.file.now w.new.block ids _ (rw can at w.ensures) g.ensures.1.0,
       ),
     )
