@@ -13,7 +13,7 @@ use refusal::{Kind, Refusal};
 use tables::{Capacities, KEPT_IDS, KEPT_LOCATIONS};
 
 // Refusal 13 of update i by the present location of its id: it is out of range, its slot is not held, or its owner is another. Zero means no object: an id
-// that was never stored passes.
+// that was never stored passes. Stays beside tables::bad_location, which tests the same: document 01 names `let .. else` in a commit's check.
 fn own_location(
     slots: usize,
     slot_marks: &[u8],

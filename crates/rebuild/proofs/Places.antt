@@ -1,8 +1,7 @@
 -- Where a location's row is written: its slab's part, its slot, and its slab's used word. Assumes nothing.
 use mathlib.Core.Path.{◌≡◌, refl, ap, sym, ◌∙◌}
 use mathlib.Core.Bool.{Bool, true, false, cond}
-use mathlib.Core.List.{List, [], ◌∷◌}
-use mathlib.Core.Logic.{◌⊎◌, inl, inr}
+use mathlib.Core.List.{List}
 use Prim.Native.Nat.{ℕ, ◌+◌, ◌*◌, ◌/◌, ◌%◌, ◌≤◌, ◌<◌, ◌^◌, pred}
 use native.Mathlib.Nat.{mul-le-mul_right}
 use native.Mathlib.Omega.{arith}
@@ -15,7 +14,6 @@ use Rattle.model.specs.Tables.{slot_place, write}
 use Rattle.model.proofs.Writes.{write_none}
 use Rattle.tables.proofs.LawsEntries.{else_is}
 use Rattle.refusal.specs.declared.Refusal.{Refusal}
-use Rattle.model.specs.Rebuild.{rows_of}
 use Rattle.rebuild_rows.proofs.Turns.{is_at, is_at_unpacked}
 use Rattle.std.specs.Prelude.{Result, Ok, Option, Some}
 
@@ -51,13 +49,6 @@ length_used slots l g = go (is_location slots l)
     go : (b : Bool) → length (cond b (put_word g used_words (l / unit) 1) g) ≡ length g
     go true = length-set g (word_at used_words (l / unit)) 1
     go false = refl
-
--- past the last row
-pub rows_end : (is ls : List ℕ) → (length is ≡ 0) ⊎ (length ls ≡ 0) → rows_of is ls ≡ []
-rows_end [] ls e = refl
-rows_end (i ∷ is) [] e = refl
-rows_end (i ∷ is) (l ∷ ls) (inl e) = absurd (omega arith)
-rows_end (i ∷ is) (l ∷ ls) (inr e) = absurd (omega arith)
 
 -- a number that is no location writes nothing
 pub none_written : (slots l id : ℕ) (marks owners g : List ℕ) (u : Result (Option SlabAddress) Refusal) → bad_slots slots ≡ false → u ≡ unpacked slots l

@@ -1,6 +1,7 @@
 -- Laws of the passes over rows: one row more, and the end. Assumes nothing.
 use mathlib.Core.Path.{◌≡◌, refl, ap, sym, ◌∙◌}
 use mathlib.Core.Bool.{Bool, true, false, cond}
+use mathlib.Core.Logic.{◌⊎◌, inl, inr}
 use mathlib.Core.List.{List, [], ◌∷◌}
 use Prim.Native.Nat.{ℕ, suc, ◌+◌, ◌-◌, ◌/◌, ◌%◌, ◌<◌, ◌≤◌}
 use native.Mathlib.Numerals.{add-one}
@@ -37,47 +38,33 @@ is_at_unpacked slots l b = rw b (go (eqb l 0) refl (is_location slots l) refl)
     go false e true f = refl
     go false e false f = refl
 
--- ---- rows that are left
+-- ---- rows
 
--- from row i on
-abbrev pub rest : List ℕ → List ℕ → ℕ → List Row
-rest is ls i = rows_of (drop i is) (drop i ls)
+-- past the last row
+pub rows_end : (is ls : List ℕ) → (length is ≡ 0) ⊎ (length ls ≡ 0) → rows_of is ls ≡ []
+rows_end [] ls e = refl
+rows_end (i ∷ is) [] e = refl
+rows_end (i ∷ is) (l ∷ ls) (inl e) = absurd (omega arith)
+rows_end (i ∷ is) (l ∷ ls) (inr e) = absurd (omega arith)
 
-pub rest_turn : (is ls : List ℕ) (i : ℕ) → i < length is → length ls ≡ length is → rest is ls i ≡ (get_or is i 0, get_or ls i 0) ∷ rest is ls (i + 1)
-rest_turn is ls i h e =
-    (λ j. rows_of (drop-cons is i 0 h j) (drop-cons ls i 0 (omega arith) j))
-    ∙ ap (λ n. (get_or is i 0, get_or ls i 0) ∷ rows_of (drop n is) (drop n ls)) (sym (add-one i))
-
-pub rest_end : (is ls : List ℕ) (i : ℕ) → length is ≤ i → rest is ls i ≡ []
-rest_end is ls i h = ap (λ x. rows_of x (drop i ls)) (drop_of_length-le is h)
-
--- ---- first_wrong
-
-module _ (ids slots : ℕ) (seen is ls : List ℕ) (i : ℕ) (h : i < length is) (e : length ls ≡ length is) where
-  first_wrong_turn : first_wrong ids slots seen i (rest is ls i)
-      ≡ wrong_or (wrong_in ids slots seen (get_or is i 0) (get_or ls i 0)) i (first_wrong ids slots (set seen (get_or is i 0) 1) (i + 1) (rest is ls (i + 1)))
-  unfolding first_wrong
-  first_wrong_turn = ap (first_wrong ids slots seen i) (rest_turn is ls i h e)
-
-  -- what is said where this row is wrong in a way, or in none
+module _ (ids slots : ℕ) (seen : List ℕ) (i : ℕ) (r : Row) (rs : List Row) where
+  -- what is said where the first of them is wrong in a way, or in none
   abbrev told : Option Kind → Result ⊤ Refusal
-  told o = wrong_or o i (first_wrong ids slots (set seen (get_or is i 0) 1) (i + 1) (rest is ls (i + 1)))
+  told o = wrong_or o i (first_wrong ids slots (set seen r.0 1) (i + 1) rs)
 
-  pub first_wrong_here : {o : Option Kind} {k : Kind} → o ≡ wrong_in ids slots seen (get_or is i 0) (get_or ls i 0) → o ≡ Some k
-      → first_wrong ids slots seen i (rest is ls i) ≡ Err (refusal k i)
-  first_wrong_here q z = first_wrong_turn ∙ ap told (sym q ∙ z)
+  pub first_wrong_here : {o : Option Kind} {k : Kind} → o ≡ wrong_in ids slots seen r.0 r.1 → o ≡ Some k
+      → first_wrong ids slots seen i (r ∷ rs) ≡ Err (refusal k i)
+  unfolding first_wrong
+  first_wrong_here q z = ap told (sym q ∙ z)
 
-  pub first_wrong_next : {o : Option Kind} → o ≡ wrong_in ids slots seen (get_or is i 0) (get_or ls i 0) → ((k : Kind) → o ≡ Some k → ⊥)
-      → first_wrong ids slots seen i (rest is ls i) ≡ first_wrong ids slots (set seen (get_or is i 0) 1) (i + 1) (rest is ls (i + 1))
-  first_wrong_next {o} q n = first_wrong_turn ∙ ap told (sym q) ∙ go o n
-    where
-      go : (o : Option Kind) → ((k : Kind) → o ≡ Some k → ⊥) → told o ≡ told None
-      go None n = refl
-      go (Some k) n = absurd (n k refl)
+  pub first_wrong_next : {o : Option Kind} → o ≡ wrong_in ids slots seen r.0 r.1 → o ≡ None
+      → first_wrong ids slots seen i (r ∷ rs) ≡ first_wrong ids slots (set seen r.0 1) (i + 1) rs
+  unfolding first_wrong
+  first_wrong_next q z = ap told (sym q ∙ z)
 
-pub first_wrong_end : (ids slots : ℕ) (seen is ls : List ℕ) (i : ℕ) → length is ≤ i → first_wrong ids slots seen i (rest is ls i) ≡ Ok tt
+pub first_wrong_end : (ids slots : ℕ) (seen : List ℕ) (i : ℕ) → first_wrong ids slots seen i [] ≡ Ok tt
 unfolding first_wrong
-first_wrong_end ids slots seen is ls i h = ap (first_wrong ids slots seen i) (rest_end is ls i h)
+first_wrong_end ids slots seen i = refl
 
 -- ---- repeat_in
 

@@ -60,12 +60,12 @@ fn first_wrong_by(
     ids: &[u64],
     row_locations: &[u64],
 ) -> Result<(), Refusal>
-    requires { (bad_slots caps.slots ≡ false) × (length row_locations.now ≡ length ids.now) }
+    requires { bad_slots caps.slots ≡ false }
     ensures { result
         ≡ first_wrong caps.ids caps.slots seen.old 0 (rows_of ids.now row_locations.now) }
 {
-    for (i, id) in ids.iter().enumerate() {
-        if let Some(kind) = wrong_in(caps, seen, *id, row_locations[i]) {
+    for (i, (id, location)) in ids.iter().zip(row_locations).enumerate() {
+        if let Some(kind) = wrong_in(caps, seen, *id, *location) {
             return Err(Refusal::at(kind, i));
         }
         id_allocator::put(seen, *id as usize, HELD);
@@ -74,7 +74,7 @@ fn first_wrong_by(
 }
 
 fn first_wrong(caps: Capacities, ids: &[u64], row_locations: &[u64]) -> Result<(), Refusal>
-    requires { (bad_slots caps.slots ≡ false) × (length row_locations.now ≡ length ids.now) }
+    requires { bad_slots caps.slots ≡ false }
     ensures { result
         ≡ first_wrong caps.ids caps.slots (replicate 65536 0) 0 (rows_of ids.now row_locations.now) }
 {

@@ -6,7 +6,7 @@ use Prim.Native.Nat.{◌+◌}
 use native.Mathlib.Omega.{arith}
 use lib.ListN.{set}
 use Rattle.model.specs.Rebuild.{rows_of, held_by, located_by}
-use Rattle.rebuild.proofs.Places.{rows_end}
+use Rattle.rebuild_rows.proofs.Turns.{rows_end}
 use Rattle.rebuild.proofs.apply.hold_ids.Goals as goal
 
 pub loop-id-preserved : goal.loop-id-preserved

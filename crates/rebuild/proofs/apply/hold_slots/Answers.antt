@@ -5,7 +5,7 @@ use mathlib.Core.Path.{◌≡◌, ap, sym, ◌∙◌}
 use Rattle.model.specs.Tables.{write_all, locations_of}
 use Rattle.model.specs.Rebuild.{rows_of, owned_by}
 use Rattle.model.specs.MemoryAfter.{use_slots}
-use Rattle.rebuild.proofs.Places.{rows_end}
+use Rattle.rebuild_rows.proofs.Turns.{rows_end}
 use Rattle.rebuild.proofs.apply.hold_slots.Goals as goal
 
 pub loop-id-preserved : goal.loop-id-preserved
