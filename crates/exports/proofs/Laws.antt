@@ -18,9 +18,7 @@ use Rattle.model.specs.Step.{refusal, unless}
 use Rattle.model.specs.Verdict.{Verdict, ok, refuse}
 use Rattle.lookup.specs.Lookup.{looked_answer}
 use Rattle.lookup_page.specs.Page as Page
-use Rattle.offer.specs.Outcome.{Left, offered_answer}
 use Rattle.snapshot_writer.specs.Outcome as Written
-use Rattle.snapshot_writer.specs.Outcome.{written_answer}
 use Rattle.exports_status.specs.Status.{status_of, values_in, exported}
 use Rattle.exports.specs.Answers.{where_fits}
 use Rattle.exports.specs.Pages.{ExportedPage, exported_page}

@@ -1,6 +1,6 @@
 -- The loop's invariant: writing the slabs of the updates left over the present rows is writing all. Assumes nothing.
 use mathlib.Core.Logic.{⊎_elim, inl, inr}
-use mathlib.Core.Path.{◌≡◌, refl, sym, ap, ◌∙◌}
+use mathlib.Core.Path.{ap, ◌∙◌}
 use native.Mathlib.Omega.{arith}
 use lib.ListN.{set, length-set}
 use lib.Seq.{sets}

@@ -4,7 +4,7 @@ use Rattle.exports_status.specs.Status.{status_of, values_in, or_zeros}
 use Rattle.std.proofs.Common.{rules}
 use Rattle.exports.proofs.Laws.{exported_short, exported_is}
 use Rattle.exports.proofs.leaves.wentuhoro_fragmentation_cutoff.Goals as goal
-use Rattle.std.specs.Prelude.{Result, Option, ℕ, Ok, Some, None}
+use Rattle.std.specs.Prelude.{Result, Option, ℕ, Ok, None}
 use Rattle.refusal.specs.declared.Refusal.{Refusal}
 
 pub returns-then-cutoff-ne2 : goal.returns-then-cutoff-ne2

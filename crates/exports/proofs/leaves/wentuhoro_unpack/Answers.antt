@@ -4,7 +4,7 @@ use Rattle.exports_status.specs.Status.{status_of, values_in, or_zeros}
 use Rattle.std.proofs.Common.{rules}
 use Rattle.exports.proofs.Laws.{exported_short, exported_is}
 use Rattle.exports.proofs.leaves.wentuhoro_unpack.Goals as goal
-use Rattle.std.specs.Prelude.{Result, Option, Ok, Some, None}
+use Rattle.std.specs.Prelude.{Result, Option, Ok, None}
 use Rattle.refusal.specs.declared.Refusal.{Refusal}
 use Rattle.address.specs.declared.SlabAddress.{SlabAddress}
 
