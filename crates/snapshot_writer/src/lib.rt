@@ -18,13 +18,13 @@ ghost use Rattle.std.specs.Prelude.{cond, ◌&&◌, ◌≡◌, map, ◌+◌, ◌
 ghost use Rattle.snapshot_blocks.specs.Formats.{version2};
 ghost use Rattle.snapshot_blocks.specs.Blocks.{entry_for};
 ghost use Rattle.snapshot_blocks.specs.Files.{file_of, file_length};
-ghost use Rattle.model.specs.Snapshots.{those_from, snapshot_rows};
+ghost use Rattle.model.specs.Snapshots.{snapshot_rows};
 ghost use Rattle.model.specs.Store.{ask, snapshot_length};
 ghost use Rattle.model.specs.Verdict.{judged_verdict};
 ghost use Rattle.model.specs.Lending.{every_table};
 ghost use Rattle.model.specs.Lent.{answered, lent_by};
 ghost use Rattle.snapshot_writer.specs.Outcome.{measured_answer, written_answer, Left, snapshot_leaves};
-ghost use Rattle.snapshot_writer.specs.Writer.{stored_in, not_own, block_put};
+ghost use Rattle.snapshot_writer.specs.Writer.{not_own, block_put, has_row, rows_after, every_row};
 
 use refusal::{Kind, Refusal};
 use snapshot_blocks::{BLOCK, PER_BLOCK};
@@ -108,7 +108,7 @@ pub fn snapshot_length(
 impl Stored<'_> {
     // Whether an id has a row.
     fn has(self, id: usize) -> bool
-        ensures { result ≡ stored_in self.entry.ids self.entry.id_marks.now self.entry.locations.now self.entry.tallies.now id }
+        ensures { result ≡ has_row self.entry id }
     {
         get(self.locations, 0, id) != 0
             && tables::held_id(self.ids, self.id_marks, self.tallies, id as u64)
@@ -117,7 +117,7 @@ impl Stored<'_> {
     // How many ids have a row.
     fn count(self) -> usize
         requires { self.ids ≤ 65536 }
-        ensures { result ≡ length (those_from (stored_in self.entry.ids self.entry.id_marks.now self.entry.locations.now self.entry.tallies.now) self.entry.ids 0) }
+        ensures { result ≡ length (every_row self.entry) }
     {
         let mut n = 0;
         for i in 0..self.ids {
@@ -155,7 +155,7 @@ impl Stored<'_> {
         requires { self.ids ≤ 65536 }
         ensures { judged_verdict result
             ≡ snapshot_rows (not_own slots self.entry.locations.now slot_marks.now owners.now self.entry.tallies.now) 0
-            (those_from (stored_in self.entry.ids self.entry.id_marks.now self.entry.locations.now self.entry.tallies.now) self.entry.ids 0) }
+            (every_row self.entry) }
     {
         let mut row = 0;
         for i in 0..self.ids {
@@ -175,8 +175,8 @@ impl Stored<'_> {
     fn gather(self, from: usize, list: &mut [u64]) -> Gathered
         requires { (length list.old ≡ 5) × ((self.ids ≤ 65536) × (from ≤ self.ids)) }
         ensures { ((result.count ≤ 5) × (result.next ≤ self.entry.ids))
-            × ((take result.count list.new ≡ take 5 (those_from (stored_in self.entry.ids self.entry.id_marks.now self.entry.locations.now self.entry.tallies.now) (self.entry.ids - from) from))
-            × (those_from (stored_in self.entry.ids self.entry.id_marks.now self.entry.locations.now self.entry.tallies.now) (self.entry.ids - result.next) result.next ≡ drop 5 (those_from (stored_in self.entry.ids self.entry.id_marks.now self.entry.locations.now self.entry.tallies.now) (self.entry.ids - from) from))) }
+            × ((take result.count list.new ≡ take 5 (rows_after self.entry from))
+            × (rows_after self.entry result.next ≡ drop 5 (rows_after self.entry from))) }
     {
         let mut n = 0;
         let mut i = from;
@@ -195,10 +195,10 @@ impl Stored<'_> {
             × (((length self.locations.now ≡ self.ids) × (self.ids * 80 ≤ length carried.now))
             × ((number ≤ 65536) × (512 * number + 512 ≤ length file.old))) }
         ensures { (result ≤ self.entry.ids)
-            × ((those_from (stored_in self.entry.ids self.entry.id_marks.now self.entry.locations.now self.entry.tallies.now) (self.entry.ids - result) result ≡ drop 5 (those_from (stored_in self.entry.ids self.entry.id_marks.now self.entry.locations.now self.entry.tallies.now) (self.entry.ids - from) from))
+            × ((rows_after self.entry result ≡ drop 5 (rows_after self.entry from))
             × (file.new
             ≡ block_put number
-            (map (entry_for 80 self.entry.locations.now carried.now) (take 5 (those_from (stored_in self.entry.ids self.entry.id_marks.now self.entry.locations.now self.entry.tallies.now) (self.entry.ids - from) from)))
+            (map (entry_for 80 self.entry.locations.now carried.now) (take 5 (rows_after self.entry from)))
             file.old)) }
     {
         let mut list = [0u64; PER_BLOCK];
@@ -218,12 +218,12 @@ impl Stored<'_> {
 
     // Writes all blocks of a file of so many rows.
     fn put_blocks(self, carried: &[u8], rows: usize, file: &mut [u8])
-        requires { ((self.ids ≤ 65536) × (rows ≡ length (those_from (stored_in self.ids self.id_marks.now self.locations.now self.tallies.now) self.ids 0)))
+        requires { ((self.ids ≤ 65536) × (rows ≡ length (every_row self)))
             × (((length self.locations.now ≡ self.ids) × (self.ids * 80 ≤ length carried.now))
             × (length file.old ≡ file_length version2 rows)) }
         ensures { file.new
             ≡ file_of version2
-            (map (entry_for 80 self.entry.locations.now carried.now) (those_from (stored_in self.entry.ids self.entry.id_marks.now self.entry.locations.now self.entry.tallies.now) self.entry.ids 0)) }
+            (map (entry_for 80 self.entry.locations.now carried.now) (every_row self.entry)) }
     {
         let last = full_blocks(rows);
         let mut from = 0;
