@@ -3,27 +3,24 @@
 //     // asked: the ids, in any order and as often as one likes; numbers, found: as many rows; rows: as many times carried::WIDTH bytes
 //     match lookup_page::get_locations_for_objects(caps, &id_marks, &locations, &slot_marks, &owners, &tallies, &carried, &asked, numbers, found, rows) {
 //         Ok(()) => .. numbers[i] ..,     // 0: found[i] is the location of asked[i], and row i what its row carries; else 8 or 13, and zeros
-//         Err(refusal) => ..,       // 1; 15, over 256 ids; the lists are as they were
+//         Err(refusal) => ..,         // 1; 15, over 256 ids; the lists are as they were
 //     }
 //
 // Row i is what a lookup of asked[i] answers: none depends on another. The lengths are looked at once.
 #![tactic(auto)]
 
-ghost use Rattle.std.specs.Prelude.{◌≡◌, false, ◌&&◌, map, ◌*◌, ◌<◌, ◌≤◌, eqb, length, get_or};
+ghost use Rattle.std.specs.Prelude.{◌≡◌, false, ◌&&◌, map, ◌*◌, ◌<◌, ◌≤◌, eqb, length};
 ghost use Rattle.refusal.specs.Outcomes.{finished_outcome};
 ghost use Rattle.address.specs.Address.{bad_slots, slabs};
 ghost use Rattle.carried.specs.Carried.{width};
 ghost use Rattle.model.specs.Lending.{row_tables};
 ghost use Rattle.model.specs.Lent.{fits_by};
-ghost use Rattle.lookup.specs.Lookup.{located_as, looked_in};
-ghost use Rattle.tables.specs.Entries.{owns_in};
 ghost use Rattle.lookup_page.specs.Page.{Left, page, page_leaves};
 ghost use Rattle.lookup_page.specs.Rows.{told_as, told_in, put_number, put_location, put_carried, written};
 
-use address::SlabAddress;
 use carried::WIDTH;
 use refusal::{Kind, Refusal};
-use tables::{Capacities, HINT, WAITING};
+use tables::Capacities;
 
 pub const MOST_ASKED: usize = 256;
 
@@ -56,67 +53,6 @@ fn fits(
     )
 }
 
-// Whether a slot of a slab is held and the id is its owner, of tables that fit.
-fn owns(
-    slots: usize,
-    slot_marks: &[u8],
-    owners: &[u64],
-    tallies: &[u64],
-    id: u64,
-    address: SlabAddress,
-) -> bool
-    requires { (address.slab < slabs) × (address.slot < slots) × (bad_slots slots ≡ false)
-        × (length slot_marks.now ≡ slabs * slots) × (length owners.now ≡ slabs * slots) }
-    ensures { result ≡ owns_in slots slot_marks.now owners.now tallies.now id address }
-{
-    let slab = address.slab;
-    let slot = address.slot;
-    let base = slab * slots;
-    let end = base + slots;
-    let hint = tables::get(tallies, HINT, slab + 1) as usize;
-    let waiting = tables::get(tallies, WAITING, slab + 1);
-    if !id_allocator::is_held(&slot_marks[base..end], hint, waiting, slot) {
-        return false;
-    }
-    owners[base + slot] == id
-}
-
-// One id, as a lookup looks at it. It is the page's own, and tests no length: a function that both calls share LLVM compiles into neither, and a lookup
-// then takes 1.7 times as long.
-fn locate(
-    caps: Capacities,
-    id_marks: &[u8],
-    locations: &[u64],
-    slot_marks: &[u8],
-    owners: &[u64],
-    tallies: &[u64],
-    id: u64,
-) -> Result<u64, Refusal>
-    requires { (bad_slots caps.slots ≡ false) × (length locations.now ≡ caps.ids)
-        × (length slot_marks.now ≡ slabs * caps.slots) × (length owners.now ≡ slabs * caps.slots) }
-    ensures { result
-        ≡ located_as (looked_in caps.ids caps.slots
-        id_marks.now
-        locations.now
-        slot_marks.now
-        owners.now
-        tallies.now id) (get_or locations.now id 0) }
-{
-    let ids = caps.ids;
-    let slots = caps.slots;
-    if !tables::held_id(ids, id_marks, tallies, id) {
-        return Err(Refusal::of(Kind::NoSuchId));
-    }
-    let location = locations[id as usize];
-    let Ok(Some(address)) = SlabAddress::unpack(slots, location) else {
-        return Err(Refusal::of(lookup::without_address(location)));
-    };
-    if !owns(slots, slot_marks, owners, tallies, id, address) {
-        return Err(Refusal::of(Kind::TablesDisagree));
-    }
-    Ok(location)
-}
-
 // Writes what a lookup answered as row p: the row that was found, or a number and zeros.
 fn put_told(
     looked: Result<u64, Refusal>,
@@ -138,7 +74,7 @@ fn put_told(
             carried::put_row(rows, p, row);
         }
         Err(refusal) => {
-            numbers[p] = refusal.number;
+            numbers[p] = refusal.kind.number();
             found[p] = 0;
             carried::put_row(rows, p, &[0; WIDTH]);
         }
@@ -184,19 +120,16 @@ fn tell(
         tallies.now
         carried.now) asked.now)) }
 {
-    let mut p = 0;
-    while p < asked.len() {
-        let id = asked[p];
-        let looked = locate(caps, id_marks, locations, slot_marks, owners, tallies, id);
+    for (p, id) in asked.iter().enumerate() {
+        let looked = lookup::locate(caps, id_marks, locations, slot_marks, owners, tallies, *id);
         put_told(
             looked,
-            carried::row(carried, id as usize),
+            carried::row(carried, *id as usize),
             p,
             numbers,
             found,
             rows,
         );
-        p += 1;
     }
 }
 

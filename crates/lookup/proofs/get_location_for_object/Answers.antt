@@ -4,7 +4,7 @@ use Rattle.std.proofs.lemmas.Result.{err_from_is_err_and}
 use Rattle.refusal.proofs.Tests.{and_true}
 use Rattle.model.specs.Lending.{row_tables}
 use Rattle.model.specs.Lent.{lent_by}
-use Rattle.model.proofs.Sizes.{fits_locations}
+use Rattle.model.proofs.Sizes.{fits_range, fits_locations, fits_slot_marks, fits_owners}
 use Rattle.carried.specs.Carried.{width, put_row}
 use Rattle.lookup.proofs.Laws.{answers_shape, answers_refused, answers_found}
 use Rattle.lookup.proofs.get_location_for_object.Goals as goal
@@ -20,7 +20,8 @@ pub locate-requires : goal.locate-requires
 locate-requires c =
     let a = c.args in
     let m = lent_by row_tables a.caps.ids a.caps.slots a.id_marks.now a.locations.now a.slot_marks.now a.owners.now a.tallies.now a.carried.now in
-    fits_locations row_tables m (and_true _ _ (sym c.fits.ensures ∙ c.if-not-fits.false)).0
+    let f = (and_true _ _ (sym c.fits.ensures ∙ c.if-not-fits.false)).0 in
+    ((fits_range row_tables m f).slots_good, fits_locations row_tables m f, fits_slot_marks row_tables m f, fits_owners row_tables m f)
 
 pub returns-in_err-location : goal.returns-in_err-location
 returns-in_err-location c =

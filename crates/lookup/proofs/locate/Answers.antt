@@ -3,7 +3,7 @@
 use mathlib.Core.Path.{sym, ap, ◌∙◌}
 use Rattle.std.proofs.Common.{rules}
 use Rattle.refusal.specs.Refusals.{refusal}
-use Rattle.address.proofs.Laws.{none_unpacked, none_refused}
+use Rattle.address.proofs.Laws.{unpacked_at, none_unpacked, none_refused}
 use Rattle.lookup.proofs.Laws.{located_free, located_none, located_own, located_other}
 use Rattle.lookup.proofs.locate.Goals as goal
 use Rattle.lookup.proofs.locate.Goals.{in_default-via-in-Ok+in_default, in_default-via-in_default}
@@ -26,13 +26,20 @@ returns-in_default c =
       | in_default-via-in_default w ↦ none (none_refused u _ w.in_default.is)
     ]
 
-pub returns-then-not-is_owner : goal.returns-then-not-is_owner
-returns-then-not-is_owner c =
+pub owns-requires : goal.owns-requires
+owns-requires c =
+    let pre = c.requires in
+    let u = c.in-Ok-Some in
+    let at = unpacked_at _ _ _ (sym c.unpack.ensures ∙ u.is ∙ ap Ok u.field-0-is) in
+    (at.slab_lt, at.slot_lt, pre.0, pre.2, pre.3)
+
+pub returns-then-not-owns : goal.returns-then-not-owns
+returns-then-not-owns c =
     let a = c.args in
     let u = c.in-Ok-Some in
     let held = sym c.held_id.ensures ∙ c.if-not-held_id.false in
-    let own = sym c.is_owner.ensures ∙ c.if-not-is_owner.true in
-    ap Err c.of-then-not-is_owner.ensures
+    let own = sym c.owns.ensures ∙ c.if-not-owns.true in
+    ap Err c.of-then-not-owns.ensures
     ∙ located_other a.caps.ids a.caps.slots a.id_marks.now a.locations.now a.slot_marks.now a.owners.now a.tallies.now a.id held _ (sym c.unpack.ensures ∙ u.is ∙ ap Ok u.field-0-is) own
 
 pub returns : goal.returns
@@ -40,5 +47,5 @@ returns c =
     let a = c.args in
     let u = c.in-Ok-Some in
     let held = sym c.held_id.ensures ∙ c.if-not-held_id.false in
-    let own = sym c.is_owner.ensures ∙ c.if-not-is_owner.false in
+    let own = sym c.owns.ensures ∙ c.if-not-owns.false in
     located_own a.caps.ids a.caps.slots a.id_marks.now a.locations.now a.slot_marks.now a.owners.now a.tallies.now a.id held _ (sym c.unpack.ensures ∙ u.is ∙ ap Ok u.field-0-is) own
