@@ -85,10 +85,9 @@ fn owns(
     owners[base + slot] == id
 }
 
-// The id's location, or why it is not told, of tables that fit. A page tells many by it: without the hint LLVM compiles it into neither call.
-#[inline(always)]
+// The id's location, or why it is not told, of tables that fit.
 #[tactic(auto, using(crate::proofs::Laws::held_in_lt))]
-pub fn locate(
+fn locate(
     caps: Capacities,
     id_marks: &[u8],
     locations: &[u64],

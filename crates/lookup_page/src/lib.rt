@@ -9,18 +9,21 @@
 // Row i is what a lookup of asked[i] answers: none depends on another. The lengths are looked at once.
 #![tactic(auto)]
 
-ghost use Rattle.std.specs.Prelude.{◌≡◌, false, ◌&&◌, map, ◌*◌, ◌<◌, ◌≤◌, eqb, length};
+ghost use Rattle.std.specs.Prelude.{◌≡◌, false, ◌&&◌, map, ◌*◌, ◌<◌, ◌≤◌, eqb, length, get_or};
 ghost use Rattle.refusal.specs.Outcomes.{finished_outcome};
 ghost use Rattle.address.specs.Address.{bad_slots, slabs};
 ghost use Rattle.carried.specs.Carried.{width};
 ghost use Rattle.model.specs.Lending.{row_tables};
 ghost use Rattle.model.specs.Lent.{fits_by};
+ghost use Rattle.tables.specs.Entries.{owns_in};
+ghost use Rattle.lookup.specs.Lookup.{located_as, looked_in};
 ghost use Rattle.lookup_page.specs.Page.{Left, page, page_leaves};
 ghost use Rattle.lookup_page.specs.Rows.{told_as, told_in, put_number, put_location, put_carried, written};
 
+use address::SlabAddress;
 use carried::WIDTH;
 use refusal::{Kind, Refusal};
-use tables::Capacities;
+use tables::{Capacities, HINT, WAITING};
 
 pub const MOST_ASKED: usize = 256;
 
@@ -51,6 +54,67 @@ fn fits(
             tables::carries(asked, rows),
         ),
     )
+}
+
+// As a lookup's own `owns` and `locate`, which are private there: they ask that the tables fit, and no public function asks anything.
+#[tactic(auto, using(lookup::proofs::Laws::slab_within))]
+fn owns(
+    slots: usize,
+    slot_marks: &[u8],
+    owners: &[u64],
+    tallies: &[u64],
+    id: u64,
+    address: SlabAddress,
+) -> bool
+    requires { (address.slab < slabs) × (address.slot < slots) × (bad_slots slots ≡ false)
+        × (length slot_marks.now ≡ slabs * slots) × (length owners.now ≡ slabs * slots) }
+    ensures { result ≡ owns_in slots slot_marks.now owners.now tallies.now id address }
+{
+    let slab = address.slab;
+    let slot = address.slot;
+    let base = slab * slots;
+    let end = base + slots;
+    let hint = tables::get(tallies, HINT, slab + 1) as usize;
+    let waiting = tables::get(tallies, WAITING, slab + 1);
+    if !id_allocator::is_held(&slot_marks[base..end], hint, waiting, slot) {
+        return false;
+    }
+    owners[base + slot] == id
+}
+
+#[tactic(auto, using(lookup::proofs::Laws::held_in_lt))]
+fn locate(
+    caps: Capacities,
+    id_marks: &[u8],
+    locations: &[u64],
+    slot_marks: &[u8],
+    owners: &[u64],
+    tallies: &[u64],
+    id: u64,
+) -> Result<u64, Refusal>
+    requires { (bad_slots caps.slots ≡ false) × (length locations.now ≡ caps.ids)
+        × (length slot_marks.now ≡ slabs * caps.slots) × (length owners.now ≡ slabs * caps.slots) }
+    ensures { result
+        ≡ located_as (looked_in caps.ids caps.slots
+        id_marks.now
+        locations.now
+        slot_marks.now
+        owners.now
+        tallies.now id) (get_or locations.now id 0) }
+{
+    let ids = caps.ids;
+    let slots = caps.slots;
+    if !tables::held_id(ids, id_marks, tallies, id) {
+        return Err(Refusal::of(Kind::NoSuchId));
+    }
+    let location = locations[id as usize];
+    let Ok(Some(address)) = SlabAddress::unpack(slots, location) else {
+        return Err(Refusal::of(lookup::without_address(location)));
+    };
+    if !owns(slots, slot_marks, owners, tallies, id, address) {
+        return Err(Refusal::of(Kind::TablesDisagree));
+    }
+    Ok(location)
 }
 
 // Writes what a lookup answered as row p: the row that was found, or a number and zeros.
@@ -121,7 +185,7 @@ fn tell(
         carried.now) asked.now)) }
 {
     for (p, id) in asked.iter().enumerate() {
-        let looked = lookup::locate(caps, id_marks, locations, slot_marks, owners, tallies, *id);
+        let looked = locate(caps, id_marks, locations, slot_marks, owners, tallies, *id);
         put_told(
             looked,
             carried::row(carried, *id as usize),
