@@ -24,7 +24,12 @@ use refusal::{Kind, Refusal};
 use tables::{Capacities, FREED, HINT, KEPT_LOCATIONS};
 
 // How many kept updates are to be abandoned, or why none. Nothing is written.
-fn check(caps: Capacities, slot_marks: &[u8], batch: &[u64], tallies: &[u64]) -> Result<usize, Refusal>
+fn check(
+    caps: Capacities,
+    slot_marks: &[u8],
+    batch: &[u64],
+    tallies: &[u64],
+) -> Result<usize, Refusal>
     ensures { result
         ≡ rows_as (refusal (read (lent_to abandon caps.ids caps.slots
         slot_marks.now
@@ -34,10 +39,8 @@ fn check(caps: Capacities, slot_marks: &[u8], batch: &[u64], tallies: &[u64]) ->
     if !tables::slab_fits(caps, slot_marks.len(), batch.len(), tallies.len()) {
         return Err(Refusal::of(Kind::WrongShape));
     }
-    match batch_kept::opened(batch) {
-        Ok(n) => batch_kept::in_range(caps.ids, caps.slots, batch, n),
-        Err(refusal) => Err(refusal),
-    }
+    let n = batch_kept::opened(batch)?;
+    batch_kept::in_range(caps.ids, caps.slots, batch, n)
 }
 
 // The slot of a location is given back; where that is none, nothing is written.
@@ -66,11 +69,9 @@ fn give_slots(slots: usize, slot_marks: &mut [u8], batch: &[u64], tallies: &mut 
         (give_slots slots (record { marks = slot_marks.old; words = tallies.old })
         (locations_of (kept_from batch.now n 0))) }
 {
-    let mut i: usize = 0;
-    while i < n {
+    for i in 0..n {
         let location = tables::get(batch, KEPT_LOCATIONS, i);
         give_slot(slots, slot_marks, tallies, location);
-        i += 1;
     }
 }
 
@@ -94,13 +95,8 @@ pub fn abandon(
         batch.old
         tallies.old) }
 {
-    match check(caps, slot_marks, batch, tallies) {
-        Err(refusal) => Err(refusal),
-        Ok(n) => {
-            let slots = caps.slots;
-            give_slots(slots, slot_marks, batch, tallies, n);
-            tables::put(batch, 0, 0, 0);
-            Ok(())
-        }
-    }
+    let n = check(caps, slot_marks, batch, tallies)?;
+    give_slots(caps.slots, slot_marks, batch, tallies, n);
+    tables::put(batch, 0, 0, 0);
+    Ok(())
 }

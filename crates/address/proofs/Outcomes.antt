@@ -5,7 +5,7 @@ use Prim.Native.Nat.{ℕ}
 use lib.ListN.{get_or}
 use Rattle.refusal.proofs.Outcomes.{outcome_one}
 use Rattle.address.specs.Outcomes.{made_outcome, packed_outcome, unpacked_says, unpacked_outcome}
-use Rattle.std.specs.Prelude.{Result, Ok, Err, Option, Some, None}
+use Rattle.std.specs.Prelude.{Result, Option, Some, None}
 use Rattle.refusal.specs.declared.Refusal.{Refusal}
 use Rattle.address.specs.declared.SlabAddress.{SlabAddress}
 

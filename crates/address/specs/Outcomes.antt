@@ -1,5 +1,5 @@
 -- The outcome of each answer: document 01's number and values. Assumes nothing.
-use Rattle.std.specs.Prelude.{List, ℕ, [], ◌∷◌, Result, Ok, Err, Option, Some, None, ℕ}
+use Rattle.std.specs.Prelude.{List, ℕ, [], ◌∷◌, Result, Option, Some, None}
 use Rattle.refusal.specs.Outcomes.{Values, outcome_by}
 use Rattle.refusal.specs.declared.Refusal.{Refusal}
 use Rattle.address.specs.declared.SlabAddress.{SlabAddress}

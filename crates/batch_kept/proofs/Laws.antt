@@ -5,12 +5,11 @@ use mathlib.Core.Path.{◌≡◌, refl, sym, ap, ◌∙◌}
 use mathlib.Core.List.{List, [], ◌∷◌}
 use Prim.Native.Nat.{ℕ, zero, suc, ◌+◌, ◌-◌, ◌/◌, ◌%◌, ◌≤◌, ◌<◌, pred}
 use native.Mathlib.Numerals.{add-one}
-use native.Mathlib.Nat.{zero-add, sub-zero}
 use native.Mathlib.Omega.{arith}
 use lib.Dec.{ltb, eqb, eqb-suc-zero}
 use lib.ListN.{length, get_or, take, drop, length-take, length-drop}
 use lib.Seq.{drop-cons, get_or-take, get_or-drop}
-use borrow.Author.Tests.{ne_eqb, lt-ltb, le-ltb, ltb-false}
+use borrow.Author.Tests.{ne_eqb, lt-ltb, ltb-false}
 use Rattle.refusal.specs.Refusals.{refusal, no_batch, tables_disagree}
 use Rattle.refusal.specs.declared.Refusal.{Refusal}
 use Rattle.refusal.proofs.Tests.{by_test}
@@ -22,10 +21,11 @@ use Rattle.model.specs.Tests.{one_open}
 use Rattle.model.specs.Memory.{Memory, kept_ids_at, kept_locations_at, batch_words, read}
 use Rattle.model.specs.Batches.{bad_row, abandon_rows, commit_rows}
 use Rattle.model.proofs.Verdicts.{test_ok, then_ok}
+use Rattle.tables.proofs.LawsEntries.{else_is}
 use Rattle.model.proofs.Locations.{is_location_says, is_location_nz}
-use Rattle.batch_kept.specs.Kept.{count_by, count_of, rows_then, rows_as, rows_before, kept_from, no_address, bad_kept, first_bad, by_address, kept_row}
-use Rattle.std.specs.Prelude.{Result, Ok, Err, Option, Some, None}
+use Rattle.batch_kept.specs.Kept.{count_by, count_of, rows_then, rows_as, kept_from, bad_kept, first_bad, by_address, kept_row}
 use Rattle.address.specs.declared.SlabAddress.{SlabAddress}
+use Rattle.std.specs.Prelude.{Result, Ok, Err, Option, Some, is_err}
 
 -- ---- rows
 pairs_from : (b : List ℕ) (n i : ℕ) → length b ≡ batch_words → i + n ≤ most_updates → pairs n (drop i (take most_updates (drop kept_ids_at b))) (drop i (drop kept_locations_at b)) ≡ kept_from b n i
@@ -124,60 +124,16 @@ pub rows_as_count : (v : Verdict) (p n : ℕ) → rows_as v p ≡ Ok n → (v �
 rows_as_count ok p n e = let q : p ≡ n = cc in (refl, sym q)
 rows_as_count (refuse k i) p n e = let z : ◌≡◌ {A = ℕ} 0 1 = cc in absurd (omega arith)
 
-pub rows_as_refused : (v : Verdict) (p : ℕ) (r : Refusal) → rows_as v p ≡ Err r → v ≡ refuse r.number r.index
+pub rows_as_refused : (v : Verdict) (p : ℕ) (r : Refusal) → rows_as v p ≡ Err r → v ≡ refuse r.kind r.index
 rows_as_refused ok p r e = let z : ◌≡◌ {A = ℕ} 0 1 = cc in absurd (omega arith)
 rows_as_refused (refuse k i) p r e =
     let q : refusal k i ≡ r = cc in
-    ap (λ (x : Refusal). refuse x.number x.index) q
-
--- ---- the first bad row, of two tests: the earlier of the two first ones
-
--- how many of the rows up to `end` come before the first bad one
-abbrev before : (Row → Bool) → List ℕ → ℕ → ℕ → ℕ → ℕ
-before bad b n i end = rows_before (rows_as (first_bad bad i (kept_from b n i)) end)
-
-module _ (p : Row → Bool) (b : List ℕ) where
-  before_from : (n i end : ℕ) → i + n ≡ end → i ≤ before p b n i end
-  unfolding first_bad kept_from test ◌⨾◌
-  before_from zero i end h = omega arith
-  before_from (suc n) i end h =
-      by_test (p (get_or b (1 + i) 0, get_or b (257 + i) 0)) (λ e. simp e (omega arith)) (λ e. simp e (omega (arith, before_from n (suc i) end (omega arith))))
-
-  -- that number tells what is refused
-  before_tells : (n i end : ℕ) → i + n ≡ end → first_bad p i (kept_from b n i) ≡ test (ltb (before p b n i end) end) tables_disagree (before p b n i end)
-  unfolding first_bad kept_from test ◌⨾◌
-  before_tells zero i end h = simp (le-ltb end end (omega arith))
-  before_tells (suc n) i end h =
-      by_test (p (get_or b (1 + i) 0, get_or b (257 + i) 0)) (λ e. simp (e, lt-ltb i end (omega arith))) (λ e. simp e (before_tells n (suc i) end (omega arith)))
-
-module _ (p q : Row → Bool) (b : List ℕ) where
-  before_either : (n i end : ℕ) → i + n ≡ end → before (λ r. p r || q r) b n i end ≡ before q b (before p b n i end - i) i (before p b n i end)
-  unfolding first_bad kept_from test ◌⨾◌
-  before_either zero i end h = let z : end - i ≡ 0 = omega arith in rw z
-  before_either (suc n) i end h =
-      let m = before p b n (suc i) end in
-      let past : suc i ≤ m = before_from p b n (suc i) end (omega arith) in
-      let more : m - i ≡ suc (m - suc i) = omega arith in
-      let z : i - i ≡ 0 = omega arith in
-      by_test (p (get_or b (1 + i) 0, get_or b (257 + i) 0))
-      (λ e. simp (e, z))
-      (λ e. by_test (q (get_or b (1 + i) 0, get_or b (257 + i) 0)) (λ f. simp (e, f, more)) (λ f. simp (e, f, more) (before_either n (suc i) end (omega arith))))
-
-  -- the second test is asked of the rows before the first bad one by the first
-  pub first_bad_either : (n : ℕ) (said own : Result ℕ Refusal) (end first : ℕ) → said ≡ rows_as (first_bad p 0 (kept_from b n 0)) n → end ≡ rows_before said
-      → own ≡ rows_as (first_bad q 0 (kept_from b end 0)) end → first ≡ rows_before own
-      → rows_as (first_bad (λ r. p r || q r) 0 (kept_from b n 0)) n ≡ rows_as (test (ltb first n) tables_disagree first) n
-  first_bad_either n said own end first s e o f =
-      let e' : end ≡ before p b n 0 n = e ∙ ap rows_before s in
-      let f' : first ≡ before q b end 0 end = f ∙ ap rows_before o in
-      let g : before (λ r. p r || q r) b n 0 n ≡ before q b (before p b n 0 n) 0 (before p b n 0 n) = rw sub-zero at (before_either n 0 n (zero-add n)) in
-      ap (λ v. rows_as v n) (before_tells (λ r. p r || q r) b n 0 n (zero-add n))
-      ∙ ap (λ x. rows_as (test (ltb x n) tables_disagree x) n) (g ∙ ap (λ x. before q b x 0 x) (sym e') ∙ sym f')
+    ap (λ (x : Refusal). refuse x.kind x.index) q
 
 -- ---- ranges
 module _ (cap l : ℕ) (ok : bad_slots cap ≡ false) where
   -- what is done at a location's address
-  pub location_address : {A : Type 0} (f : ℕ → ℕ → A) (d : A) → cond (is_location cap l) (f (l / unit) (l % unit)) d ≡ by_address f d (unpacked cap l)
+  location_address : {A : Type 0} (f : ℕ → ℕ → A) (d : A) → cond (is_location cap l) (f (l / unit) (l % unit)) d ≡ by_address f d (unpacked cap l)
   unfolding unpacked
   location_address f d = by_test (is_location cap l)
       (λ h.
@@ -187,9 +143,18 @@ module _ (cap l : ℕ) (ok : bad_slots cap ≡ false) where
       simp (ok, z, h) (ap (λ x. f x (l % unit)) (sym e)))
       (λ h. by_test (eqb l 0) (λ z. simp (ok, z, h)) (λ z. simp (ok, z, h)))
 
-  no_address_is : no_address (unpacked cap l) ≡ not (eqb l 0 || is_location cap l)
+  -- the same by what it unpacks to: no address, or one
+  pub nowhere : {A : Type 0} (f : ℕ → ℕ → A) (d : A) (u : Result (Option SlabAddress) Refusal) → u ≡ unpacked cap l → ((a : SlabAddress) → u ≡ Ok (Some a) → ⊥)
+      → d ≡ cond (is_location cap l) (f (l / unit) (l % unit)) d
+  nowhere f d u e none = sym (location_address f d ∙ ap (by_address f d) (sym e) ∙ else_is (by_address f d) d refl (λ r. refl) u none)
+
+  pub somewhere : {A : Type 0} (f : ℕ → ℕ → A) (d : A) (a : SlabAddress) → unpacked cap l ≡ Ok (Some a)
+      → f (suc a.slab) a.slot ≡ cond (is_location cap l) (f (l / unit) (l % unit)) d
+  somewhere f d a e = sym (location_address f d ∙ ap (by_address f d) e)
+
+  is_err_unpacked : is_err (unpacked cap l) ≡ not (eqb l 0 || is_location cap l)
   unfolding unpacked
-  no_address_is = by_test (eqb l 0) (λ z. simp (ok, z)) (λ z. by_test (is_location cap l) (λ h. simp (ok, z, h)) (λ h. simp (ok, z, h)))
+  is_err_unpacked = by_test (eqb l 0) (λ z. simp (ok, z)) (λ z. by_test (is_location cap l) (λ h. simp (ok, z, h)) (λ h. simp (ok, z, h)))
 
 not_and : (a b : Bool) → not (a && b) ≡ (not a || not b)
 not_and true b = refl
@@ -198,10 +163,4 @@ not_and false b = refl
 pub bad_row_read : (m : Memory) (r : Row) → bad_slots m.slots ≡ false → bad_row (read m) r ≡ bad_kept m.ids m.slots r.0 r.1
 unfolding bad_kept read
 bad_row_read m r c =
-    rw (no_address_is m.slots r.1 c) (not_and (ltb 0 r.0 && ltb r.0 m.ids) (eqb r.1 0 || is_location m.slots r.1))
-
--- what an `if let` on an unpacked location tells where it is not refused
-pub not_refused : (u : Result (Option SlabAddress) Refusal) → ((r : Refusal) → u ≡ Err r → ⊥) → no_address u ≡ false
-not_refused (Ok (Some a)) k = refl
-not_refused (Ok None) k = refl
-not_refused (Err r) k = absurd (k r refl)
+    rw (is_err_unpacked m.slots r.1 c) (not_and (ltb 0 r.0 && ltb r.0 m.ids) (eqb r.1 0 || is_location m.slots r.1))

@@ -3,7 +3,7 @@ use mathlib.Core.Path.{◌≡◌, refl}
 use lib.ListN.{get_or}
 use Rattle.refusal.proofs.Outcomes.{outcome_one}
 use Rattle.batch_kept.specs.Outcomes.{rows_outcome}
-use Rattle.std.specs.Prelude.{Result, Ok, Err, ℕ}
+use Rattle.std.specs.Prelude.{Result, ℕ}
 use Rattle.refusal.specs.declared.Refusal.{Refusal}
 
 pub rows_outcome_one : (a b : Result ℕ Refusal) → rows_outcome a ≡ rows_outcome b → a ≡ b

@@ -1,6 +1,6 @@
 -- The kept batch in the words that hold it. Nothing here has to be believed: proofs/Laws.antt shows that each says what the model says of the
 -- batch that is read from them. Assumes nothing.
-use Rattle.std.specs.Prelude.{Bool, true, false, not, cond, ◌&&◌, ◌||◌, List, [], ◌∷◌, ℕ, zero, suc, ◌+◌, ◌-◌, ltb, eqb, get_or, Result, Ok, Err, Option, Some, None}
+use Rattle.std.specs.Prelude.{Bool, not, cond, ◌&&◌, ◌||◌, List, [], ◌∷◌, ℕ, zero, suc, ◌+◌, ◌-◌, ltb, eqb, get_or, Result, Ok, Err, is_err, Option, Some, None}
 use Rattle.refusal.specs.Refusals.{refusal, no_batch, tables_disagree}
 use Rattle.address.specs.Address.{unpacked}
 use Rattle.model.specs.Store.{Row}
@@ -29,15 +29,9 @@ unfoldable pub kept_from : List ℕ → ℕ → ℕ → List Row
 kept_from b zero i = []
 kept_from b (suc n) i = kept_row b i ∷ kept_from b n (suc i)
 
--- a location that is neither 0 nor an address
-abbrev pub no_address : Result (Option SlabAddress) Refusal → Bool
-no_address (Ok (Some a)) = false
-no_address (Ok None) = false
-no_address (Err r) = true
-
--- an id, or a new location, out of range
+-- an id, or a new location, out of range; 0 and addresses are not refused
 unfoldable pub bad_kept : ℕ → ℕ → ℕ → ℕ → Bool
-bad_kept ids slots i l = not (ltb 0 i && ltb i ids) || no_address (unpacked slots l)
+bad_kept ids slots i l = not (ltb 0 i && ltb i ids) || is_err (unpacked slots l)
 
 abbrev pub bad_kept_row : ℕ → ℕ → Row → Bool
 bad_kept_row ids slots r = bad_kept ids slots r.0 r.1
@@ -49,18 +43,13 @@ first_bad bad i (r ∷ rs) = test (bad r) tables_disagree i ⨾ first_bad bad (s
 
 -- no such batch, or what is decided of its rows
 abbrev pub rows_then : Result ℕ Refusal → Verdict → Verdict
-rows_then (Err r) v = refuse r.number r.index
+rows_then (Err r) v = refuse r.kind r.index
 rows_then (Ok n) v = v
 
 -- n updates where nothing is refused
 abbrev pub rows_as : Verdict → ℕ → Result ℕ Refusal
 rows_as ok n = Ok n
-rows_as (refuse number index) n = Err (refusal number index)
-
--- how many updates come before the one that is refused; all of them where none is
-abbrev pub rows_before : Result ℕ Refusal → ℕ
-rows_before (Ok n) = n
-rows_before (Err r) = r.index
+rows_as (refuse kind index) n = Err (refusal kind index)
 
 -- what stands at an address, by its allocator and its slot, and d where there is none
 abbrev pub by_address : {A : Type 0} → (ℕ → ℕ → A) → A → Result (Option SlabAddress) Refusal → A

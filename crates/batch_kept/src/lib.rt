@@ -16,6 +16,7 @@ use tables::{KEPT_IDS, KEPT_LOCATIONS, MOST_UPDATES};
 // The opened word says one more than there are updates, and 0 where no batch is open.
 const MOST_OPENED: u64 = MOST_UPDATES as u64 + 1;
 
+#[tactic(auto, unfolding(crate::specs::Kept::count_of))]
 pub fn opened(batch: &[u64]) -> Result<usize, Refusal>
     ensures { result ≡ count_of batch.now }
 {
@@ -30,33 +31,23 @@ pub fn opened(batch: &[u64]) -> Result<usize, Refusal>
 }
 
 // Whether a kept update's id, or its new location, is out of range. Location 0 is a Free's.
-fn bad_kept(ids: usize, slots: usize, id: u64, location: u64) -> bool
+#[tactic(auto, unfolding(crate::specs::Kept::bad_kept))]
+pub fn bad_kept(ids: usize, slots: usize, id: u64, location: u64) -> bool
     ensures { result ≡ bad_kept ids slots id location }
 {
-    if id < 1 {
-        return true;
-    }
-    if ids as u64 <= id {
-        return true;
-    }
-    if let Err(_) = SlabAddress::unpack(slots, location) {
-        return true;
-    }
-    false
+    !(0 < id && id < ids as u64) || SlabAddress::unpack(slots, location).is_err()
 }
 
 // The n kept updates, or 13 for the first that is out of range.
 pub fn in_range(ids: usize, slots: usize, batch: &[u64], n: usize) -> Result<usize, Refusal>
     ensures { result ≡ rows_as (first_bad (bad_kept_row ids slots) 0 (kept_from batch.now n 0)) n }
 {
-    let mut i: usize = 0;
-    while i < n {
+    for i in 0..n {
         let id = tables::get(batch, KEPT_IDS, i);
         let location = tables::get(batch, KEPT_LOCATIONS, i);
         if bad_kept(ids, slots, id, location) {
             return Err(Refusal::at(Kind::TablesDisagree, i));
         }
-        i += 1;
     }
     Ok(n)
 }

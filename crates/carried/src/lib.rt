@@ -14,18 +14,6 @@ ghost use Rattle.carried.specs.Carried.{width, put_row, row_in, kept_row};
 // How many bytes a row carries. Nothing here depends on more than that it is a number from 1 on.
 pub const WIDTH: usize = 80;
 
-// All bytes of one slice over those of another.
-fn copy(to: &mut [u8], from: &[u8])
-    requires { length to.old ≡ length from.now }
-    ensures { to.new ≡ from.now }
-{
-    let mut i = 0;
-    while i < to.len() {
-        to[i] = from[i];
-        i += 1;
-    }
-}
-
 // Row `index`; nothing where the column has no such row.
 pub fn row(column: &[u8], index: usize) -> &[u8]
     ensures { result.now ≡ row_in width column.now index }
@@ -38,7 +26,7 @@ pub fn row(column: &[u8], index: usize) -> &[u8]
     &column[start..end]
 }
 
-// Stores a whole row as row `index`. It passes through a local array: LLVM then knows that the two do not overlap, and copies without a loop over bytes.
+// Stores a whole row as row `index`.
 pub fn put_row(column: &mut [u8], index: usize, row: &[u8])
     ensures { column.new ≡ put_row width column.old index row.now }
 {
@@ -50,9 +38,7 @@ pub fn put_row(column: &mut [u8], index: usize, row: &[u8])
     }
     let start = index * WIDTH;
     let end = start + WIDTH;
-    let mut held = [0u8; WIDTH];
-    copy(&mut held, row);
-    copy(&mut column[start..end], &held);
+    column[start..end].copy_from_slice(row);
 }
 
 // Gives row `kept` to row `id`, as the commit of one kept update does; where the update has no location, and so is a Free, zeros.
@@ -64,11 +50,10 @@ pub fn settle(column: &mut [u8], kept: usize, id: usize, location: u64)
         put_row(column, id, &held);
         return;
     }
-    if column.len() / WIDTH <= kept {
+    let own = row(column, kept);
+    if own.len() != WIDTH {
         return;
     }
-    let start = kept * WIDTH;
-    let end = start + WIDTH;
-    copy(&mut held, &column[start..end]);
+    held.copy_from_slice(own);
     put_row(column, id, &held);
 }

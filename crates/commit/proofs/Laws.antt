@@ -29,7 +29,7 @@ use Rattle.model.proofs.Granted.{granted_fits, granted_rest}
 use Rattle.model.proofs.Sizes.{fits_range, fits_slot_marks, fits_batch}
 use Rattle.model.proofs.Verdicts.{first_ok}
 use Rattle.tables.proofs.LawsEntries.{bad_in_read}
-use Rattle.batch_kept.specs.Kept.{count_of, kept_from, rows_as, first_bad}
+use Rattle.batch_kept.specs.Kept.{bad_kept, count_of, kept_from, rows_as, first_bad}
 use Rattle.batch_kept.proofs.Laws.{bad_row_read, commit_rows_first, one_open_few, rows_as_count, rows_as_refused}
 use Rattle.batch_kept.proofs.Checked.{check_count, check_refused, check_kept, granted_answer, granted_after}
 use Rattle.commit.specs.Commit.{own_as, not_own, row_bad}
@@ -49,6 +49,16 @@ not_own_read slots locations marks owners words id old x y r told p q e h =
     let z : 0 + id ≡ id = zero-add id in
     (λ k. bad_in slots marks owners words (sym p k) (get_or locations (sym p k) 0))
     ∙ ap (λ o. bad_in slots marks owners words id o) (ap (λ a. get_or locations a 0) (sym z) ∙ sym q) ∙ sym e ∙ h
+
+module _ (ids slots : ℕ) (locations marks owners words : List ℕ) (id l x y : ℕ) (r : Bool) (p : id ≡ x) (q : l ≡ y) (e : r ≡ bad_kept ids slots id l) where
+  out_of_range : bad_kept ids slots x y ≡ r
+  out_of_range = (λ k. bad_kept ids slots (sym p k) (sym q k)) ∙ sym e
+
+  pub row_out : r ≡ true → row_bad ids slots locations marks owners words (x, y) ≡ true
+  row_out h = ap (λ b. b || not_own slots locations marks owners words (x, y)) (out_of_range ∙ h)
+
+  pub row_own : {told : Bool} → r ≡ false → not_own slots locations marks owners words (x, y) ≡ told → row_bad ids slots locations marks owners words (x, y) ≡ told
+  row_own h o = λ k. (out_of_range ∙ h) k || o k
 
 -- ---- what is said of a row
 pub own_as_refused : (bad : Bool) (i : ℕ) (r : Refusal) → own_as bad i ≡ Err r → (bad ≡ true) × (r ≡ Refusals.refusal tables_disagree i)
@@ -98,7 +108,7 @@ module _ (m : Memory) where
   check_counted r n e q = rows_as_count _ _ n (sym e ∙ q)
 
   pub check_told : (r : Result ℕ Refusal) (f : Refusal) → r ≡ rows_as (refusal (read m) S.commit) (pred (get_or m.batch 0 0)) → r ≡ Err f
-      → refusal (read m) S.commit ≡ refuse f.number f.index
+      → refusal (read m) S.commit ≡ refuse f.kind f.index
   check_told r f e q = rows_as_refused _ _ f (sym e ∙ q)
 
   -- ---- where nothing is refused

@@ -1,17 +1,18 @@
 -- What the steps of a commit write: an allocator made ready, one row, all rows. Assumes nothing.
 use mathlib.Core.Path.{◌≡◌, refl, sym, ap, ◌∙◌}
-use mathlib.Core.List.{List, map}
+use mathlib.Core.List.{List, ◌++◌}
 use Prim.Native.Nat.{ℕ, zero, suc, ◌+◌, ◌-◌, ◌*◌, ◌≤◌, ◌<◌}
 use native.Mathlib.Nat.{zero-add}
 use native.Mathlib.Numerals.{add-one}
 use native.Mathlib.Omega.{arith}
 use lib.ListN.{get_or, set, take, drop}
 use borrow.Rule.Slice.PartMut.{put_mid}
+use Rattle.std.proofs.lemmas.List.{take-append-drop}
+use Rattle.list_parts.specs.Parts.{part, put_part}
 use Rattle.list_parts.proofs.Parts.{part_range, put_part_range}
 use Rattle.carried.specs.Carried.{put_row, kept_row, committed}
-use Rattle.id_allocator.specs.Counted.{settle}
 use Rattle.model.specs.Tables.{write}
-use Rattle.model.specs.Memory.{Memory, kept_ids_at, kept_locations_at, get_word, put_word, waiting_words}
+use Rattle.model.specs.Memory.{Memory, kept_ids_at, kept_locations_at, get_word, waiting_words}
 use Rattle.model.specs.MemoryAfter.{Slots, slots_of, with_slots, with_owned, ready_by, ready_slab, pend_slot, ready_marks, ready_words, pend_old, commit_row, commit_all}
 use Rattle.batch_kept.specs.Kept.{kept_from}
 use Rattle.batch_kept.proofs.Laws.{kept_from_next, kept_from_none}
@@ -25,22 +26,21 @@ pub ready_words_busy : (g : List ℕ) (a w : ℕ) → (w ≡ 0 → ⊥) → read
 ready_words_busy g a zero h = absurd (h refl)
 ready_words_busy g a (suc w) h = refl
 
-ready_by_busy : (cap k : ℕ) (s : Slots) (w : ℕ) → (w ≡ 0 → ⊥) → ready_by cap k s w ≡ s
-ready_by_busy cap k s zero h = absurd (h refl)
-ready_by_busy cap k s (suc w) h = refl
-
 module _ (cap k : ℕ) (s : Slots) where
-  -- the slab's waiting word, where the code finds it
-  waits : get_word s.words waiting_words (k + 1) ≡ get_word s.words waiting_words (suc k)
-  waits = rw (add-one k)
+  -- a part that is written as it was
+  same_part : put_part cap s.marks k (part cap s.marks k) ≡ s.marks
+  same_part = ap (λ r. take (k * cap) s.marks ++ r) (take-append-drop cap (drop (k * cap) s.marks)) ∙ take-append-drop (k * cap) s.marks
 
-  pub slab_busy : (get_word s.words waiting_words (k + 1) ≡ 0 → ⊥) → s ≡ ready_slab cap k s
-  slab_busy h = sym (ready_by_busy cap k s (get_word s.words waiting_words (suc k)) (λ z. h (waits ∙ z)))
+  -- a slab's part of the marks made ready, by the waiting word
+  ready_part : (w : ℕ) → ◌≡◌ {A = Slots} (record { marks = put_part cap s.marks k (ready_marks w (part cap s.marks k)); words = ready_words s.words (suc k) w }) (ready_by cap k s w)
+  ready_part zero = refl
+  ready_part (suc w) = λ i. record { marks = same_part i; words = s.words }
 
-  pub slab_quiet : (p : List ℕ) → get_word s.words waiting_words (k + 1) ≡ 0 → p ≡ map settle (take (k * cap + cap - k * cap) (drop (k * cap) s.marks))
-      → ◌≡◌ {A = Slots} (record { marks = put_mid (k * cap) (k * cap + cap - k * cap) s.marks p; words = put_word s.words waiting_words (k + 1) 1 }) (ready_slab cap k s)
-  slab_quiet p z e =
-      rw (put_part_range cap s.marks k p, e, part_range cap s.marks k, add-one k) (sym (ap (ready_by cap k s) (sym waits ∙ z)))
+  pub slab_ready : (p g : List ℕ) → p ≡ ready_marks (get_word s.words waiting_words (k + 1)) (take (k * cap + cap - k * cap) (drop (k * cap) s.marks))
+      → g ≡ ready_words s.words (k + 1) (get_word s.words waiting_words (k + 1))
+      → ◌≡◌ {A = Slots} (record { marks = put_mid (k * cap) (k * cap + cap - k * cap) s.marks p; words = g }) (ready_slab cap k s)
+  slab_ready p g e f =
+      rw (put_part_range cap s.marks k p, e, f, part_range cap s.marks k, add-one k) (ready_part (get_word s.words waiting_words (suc k)))
 
 -- ---- one row
 commit_row_store : (m : Memory) (i l o : ℕ) → (l ≡ 0 → ⊥)

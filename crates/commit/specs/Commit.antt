@@ -14,7 +14,7 @@ not_own slots locations marks owners words r = bad_in slots marks owners words r
 -- what is said of update i where that is so, and where it is not
 abbrev pub own_as : Bool → ℕ → Result ⊤ Refusal
 own_as true i = Err (refusal tables_disagree i)
-own_as false i = (Ok tt)
+own_as false i = Ok tt
 
 -- an update cannot be committed: it is out of range, or the id's present location cannot be its own
 abbrev pub row_bad : ℕ → ℕ → List ℕ → List ℕ → List ℕ → List ℕ → Row → Bool

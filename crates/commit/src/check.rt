@@ -4,26 +4,16 @@ ghost use Rattle.model.specs.Store.{commit};
 ghost use Rattle.model.specs.Memory.{read};
 ghost use Rattle.model.specs.Lent.{lent_to};
 ghost use Rattle.model.specs.Step.{refusal};
-ghost use Rattle.batch_kept.specs.Kept.{kept_from, first_bad, rows_as, rows_before};
+ghost use Rattle.batch_kept.specs.Kept.{kept_from, first_bad, rows_as};
 ghost use Rattle.tables.specs.Entries.{bad_in};
-ghost use Rattle.commit.specs.Commit.{own_as, not_own, row_bad};
+ghost use Rattle.commit.specs.Commit.{own_as, row_bad};
 
 use address::SlabAddress;
 use refusal::{Kind, Refusal};
-use tables::{Capacities, KEPT_IDS};
-
-// How many updates come before the one that is refused.
-fn rows_before(said: Result<usize, Refusal>) -> usize
-    ensures { result ≡ rows_before said }
-{
-    match said {
-        Ok(n) => n,
-        Err(refusal) => refusal.index,
-    }
-}
+use tables::{Capacities, KEPT_IDS, KEPT_LOCATIONS};
 
 // Refusal 13 of update i by the present location of its id: it is out of range, its slot is not held, or its owner is another. Zero means no object: an id
-// that was never stored passes.
+// that was never stored passes. Stays beside tables::bad_location, which tests the same: document 01 names `let .. else` in a commit's check.
 fn own_location(
     slots: usize,
     slot_marks: &[u8],
@@ -48,36 +38,6 @@ fn own_location(
     Ok(())
 }
 
-// The first n kept updates, or 13 for the first of them whose id's present location cannot be its own.
-fn own_rows(
-    slots: usize,
-    locations: &[u64],
-    slot_marks: &[u8],
-    owners: &[u64],
-    batch: &[u64],
-    tallies: &[u64],
-    n: usize,
-) -> Result<usize, Refusal>
-    ensures { result
-        ≡ rows_as (first_bad (not_own slots
-        locations.now
-        slot_marks.now
-        owners.now
-        tallies.now) 0 (kept_from batch.now n 0)) n }
-{
-    let mut i: usize = 0;
-    while i < n {
-        let id = tables::get(batch, KEPT_IDS, i);
-        let old = tables::get(locations, 0, id as usize);
-        let own = own_location(slots, slot_marks, owners, tallies, id, old, i);
-        if let Err(refusal) = own {
-            return Err(refusal);
-        }
-        i += 1;
-    }
-    Ok(n)
-}
-
 // The n kept updates, or 13 for the first that cannot be committed: it is out of range, or the id's present location cannot be its own.
 fn check_rows(
     caps: Capacities,
@@ -95,15 +55,14 @@ fn check_rows(
         owners.now
         tallies.now) 0 (kept_from batch.now n 0)) n }
 {
-    let said = batch_kept::in_range(caps.ids, caps.slots, batch, n);
-    // a row that is out of range, and what comes after it, is not asked for its location
-    let end = rows_before(said);
-    let own = own_rows(
-        caps.slots, locations, slot_marks, owners, batch, tallies, end,
-    );
-    let first = rows_before(own);
-    if first < n {
-        return Err(Refusal::at(Kind::TablesDisagree, first));
+    for i in 0..n {
+        let id = tables::get(batch, KEPT_IDS, i);
+        let location = tables::get(batch, KEPT_LOCATIONS, i);
+        if batch_kept::bad_kept(caps.ids, caps.slots, id, location) {
+            return Err(Refusal::at(Kind::TablesDisagree, i));
+        }
+        let old = tables::get(locations, 0, id as usize);
+        own_location(caps.slots, slot_marks, owners, tallies, id, old, i)?;
     }
     Ok(n)
 }
@@ -141,8 +100,6 @@ pub(crate) fn check(
     ) {
         return Err(Refusal::of(Kind::WrongShape));
     }
-    match batch_kept::opened(batch) {
-        Ok(n) => check_rows(caps, locations, slot_marks, owners, batch, tallies, n),
-        Err(refusal) => Err(refusal),
-    }
+    let n = batch_kept::opened(batch)?;
+    check_rows(caps, locations, slot_marks, owners, batch, tallies, n)
 }

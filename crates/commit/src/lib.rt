@@ -28,18 +28,21 @@ use marks::PENDING;
 use refusal::Refusal;
 use tables::{Capacities, KEPT_IDS, KEPT_LOCATIONS, WAITING};
 
-// Before an id becomes pending: where none waits, what counts as held is written as held, and from then on some wait.
-fn ready_ids(id_marks: &mut [u8], tallies: &mut [u64])
-    ensures { (id_marks.new
-        ≡ ready_marks (get_word tallies.old waiting_words 0) id_marks.old)
+// The ids' allocator is the first of tables::ALLOCATORS; slab k's is k + 1.
+const IDS: usize = 0;
+
+// Before a number of an allocator becomes pending: where none waits, what counts as held is written as held, and from then on some wait.
+fn ready(marks: &mut [u8], tallies: &mut [u64], allocator: usize)
+    ensures { (marks.new
+        ≡ ready_marks (get_word tallies.old waiting_words allocator) marks.old)
         × (tallies.new
-        ≡ ready_words tallies.old 0 (get_word tallies.old waiting_words 0)) }
+        ≡ ready_words tallies.old allocator (get_word tallies.old waiting_words allocator)) }
 {
-    if tables::get(tallies, WAITING, 0) != 0 {
+    if tables::get(tallies, WAITING, allocator) != 0 {
         return;
     }
-    id_allocator::settle(id_marks);
-    tables::put(tallies, WAITING, 0, 1);
+    id_allocator::settle(marks);
+    tables::put(tallies, WAITING, allocator, 1);
 }
 
 // The same before a slot of a slab becomes pending.
@@ -48,13 +51,9 @@ fn ready_slab(slots: usize, slot_marks: &mut [u8], tallies: &mut [u64], slab: us
     ensures { ◌≡◌ {A = Slots} (record { marks = slot_marks.new; words = tallies.new })
         (ready_slab slots slab (record { marks = slot_marks.old; words = tallies.old })) }
 {
-    if tables::get(tallies, WAITING, slab + 1) != 0 {
-        return;
-    }
     let start = slab * slots;
     let end = start + slots;
-    id_allocator::settle(&mut slot_marks[start..end]);
-    tables::put(tallies, WAITING, slab + 1, 1);
+    ready(&mut slot_marks[start..end], tallies, slab + 1);
 }
 
 // The slot of a location becomes pending.
@@ -125,7 +124,7 @@ fn apply_row(
         put_owner(slots, owners, new, id);
         return;
     }
-    ready_ids(id_marks, tallies);
+    ready(id_marks, tallies, IDS);
     id_allocator::put(id_marks, id as usize, PENDING);
     pend_slot(slots, slot_marks, tallies, old);
     put_owner(slots, owners, old, 0);
@@ -158,12 +157,10 @@ fn apply_rows(
         batch.now
         tallies.old) (kept_from batch.now n 0)) }
 {
-    let mut i: usize = 0;
-    while i < n {
+    for i in 0..n {
         apply_row(
             caps, id_marks, locations, slot_marks, owners, batch, tallies, i,
         );
-        i += 1;
     }
 }
 
@@ -172,12 +169,10 @@ fn settle_rows(ids: usize, batch: &[u64], carried: &mut [u8], n: usize)
     requires { (ids ≤ 65536) × (n ≤ most_updates) }
     ensures { carried.new ≡ committed width ids (kept_from batch.now n 0) carried.old }
 {
-    let mut i: usize = 0;
-    while i < n {
+    for i in 0..n {
         let id = tables::get(batch, KEPT_IDS, i);
         let location = tables::get(batch, KEPT_LOCATIONS, i);
         carried::settle(carried, ids + i, id as usize, location);
-        i += 1;
     }
 }
 
@@ -217,17 +212,13 @@ pub fn commit(
         tallies.old
         carried.old) }
 {
-    match check(
+    let n = check(
         caps, id_marks, locations, slot_marks, owners, batch, tallies, carried,
-    ) {
-        Err(refusal) => Err(refusal),
-        Ok(n) => {
-            apply_rows(
-                caps, id_marks, locations, slot_marks, owners, batch, tallies, n,
-            );
-            settle_rows(caps.ids, batch, carried, n);
-            tables::put(batch, 0, 0, 0);
-            Ok(())
-        }
-    }
+    )?;
+    apply_rows(
+        caps, id_marks, locations, slot_marks, owners, batch, tallies, n,
+    );
+    settle_rows(caps.ids, batch, carried, n);
+    tables::put(batch, 0, 0, 0);
+    Ok(())
 }

@@ -8,7 +8,7 @@
 //     let check = crc32::finish(register);
 //
 // Fast, because a sparse multiple of the polynomial says how a bit may be taken away at one place and put back at a few later ones. So bytes
-// are read whole words at a time, and put off until few are left; only these are looked up, four at once (crc_steps).
+// are read whole words at a time, and put off until one word is left; only this is divided (crc_words).
 //   crc_words   up to LONG bytes: eight a turn, in registers; the odd bytes come first, as a word of their own.
 //   crc_blocks  from there on: a multiple whose places are whole bytes, so that LLVM moves sixteen at once.
 // What the standard says, a bit at a time, is in crc_steps, and every function is proved equal to it.
@@ -41,8 +41,7 @@ pub fn finish(register: u32) -> u32
     register ^ 0xFFFF_FFFF
 }
 
-// The check value of `bytes`. It chooses by the length as `update` does, and by itself: so LLVM makes both choices where they are called, and
-// a slice is handed on once. Handed on again, it would be read back from memory before it is written, which costs as much as a few bytes.
+// The check value of `bytes`. It chooses by the length itself: as `finish(update(START, bytes))` a call took 1 ns more, since the slice is handed on twice.
 pub fn hash(bytes: &[u8]) -> u32
     ensures { result ≡ crc32 bytes.now }
 {

@@ -1,3 +1,2 @@
 pub mod Relation
 pub mod Pending
-pub mod Copy

@@ -6,73 +6,73 @@
 // be taken away at a place and put back 281, 285, 344 and 515 bytes on; what is put back stands in the last 515 bytes that were made.
 #![tactic(auto)]
 
-ghost use Rattle.std.specs.Prelude.{◌≡◌, ℕ, ◌+◌, ◌<◌, ◌≤◌, ◌^◌, length, get_or, take, drop};
+ghost use Rattle.std.specs.Prelude.{◌≡◌, ℕ, ◌+◌, ◌<◌, ◌≤◌, ◌^◌, List, ◌++◌, replicate, length, get_or, take, drop};
 ghost use Rattle.crc_steps.specs.Crc32.{crc_over};
-ghost use Rattle.crc_words.specs.Fold.{left};
-ghost use Rattle.crc_blocks.specs.Sparse.{pend};
+ghost use Rattle.crc_blocks.specs.Sparse.{pend, taken_in, left, Off};
 
-// The bytes made, with room for a block after the last 515. At the start only the register is pending.
-fn seed(register: u32) -> [u8; 2563]
-    ensures { (pend (take 515 result) ≡ register) × (length result ≡ 2563) }
+// As many bytes as are pending.
+const PENDING: usize = 515;
+
+// As many as are put off in a turn.
+const BLOCK: usize = 2048;
+
+// The bytes made, with room for a block after those pending.
+const MADE: usize = PENDING + BLOCK;
+
+// At the start only the register is pending.
+fn seed(register: u32) -> [u8; MADE]
+    ensures { pend (take 515 result) ≡ register }
 {
-    let mut y = [0u8; 2563];
-    y[0] = (register % 256) as u8;
-    y[1] = (register / 256 % 256) as u8;
-    y[2] = (register / 65536 % 256) as u8;
-    y[3] = (register / 16777216) as u8;
-    y
+    let mut made = [0u8; MADE];
+    made[..4].copy_from_slice(&register.to_le_bytes());
+    made
 }
 
-// n bytes at i are put off.
-fn put_off(y: &mut [u8], s: &[u8], i: usize, n: usize)
-    requires { (n ≤ 2048) × (i + n + 515 ≤ length s.now) × (length y.old ≡ 2563) }
-    ensures { left s.now i (pend (take 515 y.old))
-        ≡ left s.now (i + n) (pend (take 515 (drop n y.new))) }
+// The bytes are put off.
+fn put_off(made: &mut [u8], bytes: &[u8])
+    requires { (length made.old ≡ 2563) × (length bytes.now ≤ 2048) }
+    ensures { Off bytes.now (pend (take 515 made.old)) (pend (take 515 (drop (length bytes.now) made.new))) }
 {
-    let mut j = 0;
-    while j < n {
-        y[j + 515] = s[i + j] ^ (y[j + 234] ^ y[j + 230] ^ y[j + 171] ^ y[j]);
-        j += 1;
+    for (j, byte) in bytes.iter().enumerate() {
+        made[j + PENDING] = byte ^ (made[j + 234] ^ made[j + 230] ^ made[j + 171] ^ made[j]);
     }
 }
 
-// The last 515 bytes come to the front.
-fn slide(y: &mut [u8])
-    requires { length y.old ≡ 2563 }
-    ensures { take 515 y.new ≡ take 515 (drop 2048 y.old) }
+// The bytes put off are done with, and those pending come to the front.
+fn slide(made: &mut [u8; MADE])
+    ensures { take 515 made.new ≡ take 515 (drop 2048 made.old) }
 {
-    let mut j = 0;
-    while j < 515 {
-        y[j] = y[j + 2048];
-        j += 1;
+    made.copy_within(BLOCK.., 0);
+}
+
+// The bytes pending, before as many zeros.
+fn padded(pending: &[u8]) -> [u8; 2 * PENDING]
+    requires { length pending.now ≡ 515 }
+    ensures { result ≡ pending.now ++ replicate 515 0 }
+{
+    let mut window = [0u8; 2 * PENDING];
+    window[..PENDING].copy_from_slice(pending);
+    window
+}
+
+// What is pending goes into the last bytes, and nothing is pending after them.
+fn take_in(window: &mut [u8; 2 * PENDING], last: &[u8])
+    requires { length last.now ≡ 515 }
+    ensures { (k : ℕ) → k < 515 → get_or window.new k 0 ≡ taken_in window.old k (get_or last.now k 0) }
+{
+    for (j, byte) in last.iter().enumerate() {
+        window[j] = byte ^ (window[j + 234] ^ window[j + 230] ^ window[j + 171] ^ window[j]);
     }
 }
 
-// The last 515 bytes go into t, before as many zeros.
-fn window(t: &mut [u8], y: &[u8], n: usize)
-    requires { (n ≤ 2048) × (length y.now ≡ 2563) × (length t.old ≡ 1030) × ((k : ℕ) → get_or t.old k 0 ≡ 0) }
-    ensures { ((k : ℕ) → get_or t.new k 0 ≡ get_or (take 515 (drop n y.now)) k 0)
-        × ((k : ℕ) → get_or t.new k 0 < 2 ^ 8) }
+// The register after the last bytes.
+fn settle(pending: &[u8], last: &[u8]) -> u32
+    requires { (length pending.now ≡ 515) × (length last.now ≡ 515) }
+    ensures { result ≡ left last.now (pend pending.now) }
 {
-    let mut j = 0;
-    while j < 515 {
-        t[j] = y[j + n];
-        j += 1;
-    }
-}
-
-// What is pending goes into the last 515 bytes of s.
-fn settle(t: &mut [u8], s: &[u8], i: usize)
-    requires { (i + 515 ≡ length s.now) × (length t.old ≡ 1030) × ((k : ℕ) → 515 ≤ k → get_or t.old k 0 ≡ 0) }
-    ensures { ((k : ℕ) → get_or s.now k 0 < 2 ^ 8)
-        → ((k : ℕ) → get_or t.old k 0 < 2 ^ 8)
-        → crc_over 0 (take 515 t.new) ≡ left s.now i (pend t.old) }
-{
-    let mut j = 0;
-    while j < 515 {
-        t[j] = s[i + j] ^ (t[j + 234] ^ t[j + 230] ^ t[j + 171] ^ t[j]);
-        j += 1;
-    }
+    let mut window = padded(pending);
+    take_in(&mut window, last);
+    crc_words::over(0, &window[..PENDING])
 }
 
 // The register after as many bytes as are pending, or more.
@@ -80,26 +80,23 @@ fn many(register: u32, bytes: &[u8]) -> u32
     requires { 515 ≤ length bytes.now }
     ensures { result ≡ crc_over register bytes.now }
 {
-    let mut y = seed(register);
-    let mut i = 0;
-    while 2563 <= bytes.len() - i {
-        put_off(&mut y, bytes, i, 2048);
-        slide(&mut y);
-        i += 2048;
+    let (early, last) = bytes.split_at(bytes.len() - PENDING);
+    let (blocks, rest) = early.as_chunks::<BLOCK>();
+    let mut made = seed(register);
+    for block in blocks {
+        put_off(&mut made, block);
+        slide(&mut made);
     }
-    let n = bytes.len() - i - 515;
-    put_off(&mut y, bytes, i, n);
-    let mut t = [0u8; 1030];
-    window(&mut t, &y, n);
-    settle(&mut t, bytes, i + n);
-    crc_words::over(0, &t[..515])
+    put_off(&mut made, rest);
+    let n = rest.len();
+    settle(&made[n..n + PENDING], last)
 }
 
 // The register after `bytes`.
 pub fn over(register: u32, bytes: &[u8]) -> u32
     ensures { result ≡ crc_over register bytes.now }
 {
-    if bytes.len() < 515 {
+    if bytes.len() < PENDING {
         return crc_words::over(register, bytes);
     }
     many(register, bytes)

@@ -9,7 +9,7 @@ use Rattle.crc_words.specs.Fold.{up, over, num, Turn, pulled, past_of}
 use Rattle.crc_steps.proofs.Xor.{xor_assoc, xor_swap}
 use Rattle.crc_steps.proofs.Agree.{id, down}
 use Rattle.crc_words.proofs.Shifts.{lup, over_xor}
-use Rattle.crc_words.proofs.Turns.{far_turn}
+use Rattle.crc_words.proofs.Turns.{far_turn, num_xor}
 
 -- x is a and b together
 record Sum (x a b : ℕ) : Type 0 where
@@ -91,6 +91,21 @@ past_with p q r s t w x u l m =
     turn_with 268 w x (past_of p q r s t) (past_of (bit_xor (bit_xor w x) (pulled q r s t)) p q r s) u (past_turn p q r s t (bit_xor w x) l m)
 
 -- nothing yet
-pub past_none : past_of 0 0 0 0 0 ≡ 0
+past_none : past_of 0 0 0 0 0 ≡ 0
 unfolding past_of num over pulled
 past_none = refl
+
+pub past_zero : (p q r s t : ℕ) → p ≡ 0 → q ≡ 0 → r ≡ 0 → s ≡ 0 → t ≡ 0 → past_of p q r s t ≡ 0
+past_zero p q r s t a b c d e = rw (a, b, c, d, e) past_none
+
+num_none : num 0 0 0 0 0 ≡ 0
+unfolding num over
+num_none = refl
+
+pub num_zero : (p q r s t : ℕ) → p ≡ 0 → q ≡ 0 → r ≡ 0 → s ≡ 0 → t ≡ 0 → num p q r s t ≡ 0
+num_zero p q r s t a b c d e = rw (a, b, c, d, e) num_none
+
+-- two words taken in
+pub num_with : (a b c d e p q : ℕ) → bit_xor (num a b c d e) (over p q) ≡ num (bit_xor a p) (bit_xor b q) c d e
+unfolding num over
+num_with a b c d e p q = simp xor_zero_r at (num_xor a b c d e p q 0 0 0)

@@ -1,5 +1,6 @@
 pub mod Shifts
 pub mod Turns
 pub mod Bytes
-pub mod Left
+pub mod Passed
+pub mod Read
 pub mod LastWords

@@ -1,8 +1,9 @@
 -- What a word that was read is put off to, and the turn that does it.
 -- Assumes nothing.
 use mathlib.Core.Path.{◌≡◌, refl, sym, ap, ap₂, ◌∙◌, subst}
-use Prim.Native.Nat.{ℕ, ◌+◌, ◌*◌, ◌/◌, ◌^◌, ◌<◌}
+use Prim.Native.Nat.{ℕ, ◌+◌, ◌-◌, ◌*◌, ◌/◌, ◌^◌, ◌≤◌, ◌<◌}
 use native.Mathlib.Nat.{add_assoc}
+use native.Mathlib.Omega.{arith}
 use lib.Dec.{T}
 use lib.Bits.{bit_xor, xor_lt, xor_zero_r}
 use Rattle.crc_steps.specs.Crc32.{step, steps}
@@ -130,8 +131,8 @@ three_word : (y : ℕ) → y < 2 ^ 64 → steps 244 y ≡ steps 180 (three_of y)
 three_word = put_off 180 three_of lin_three three_falls three_zero three_top
 
 -- where x^135 does
-unfoldable mid_of : ℕ → ℕ
-mid_of y =
+unfoldable two_of : ℕ → ℕ
+two_of y =
     num (bit_xor (bit_xor (bit_xor (up 7 y) (up 16 y)) (up 39 y)) (bit_xor (bit_xor (up 55 y) (up 57 y)) (up 59 y)))
     (bit_xor
     (bit_xor (bit_xor (bit_xor (y / 2 ^ 57) (y / 2 ^ 48)) (y / 2 ^ 25)) (bit_xor (bit_xor (y / 2 ^ 9) (y / 2 ^ 7)) (y / 2 ^ 5)))
@@ -140,53 +141,53 @@ mid_of y =
     0
     0
 
-lin_mid : Lin mid_of
-unfolding mid_of num
-lin_mid =
+lin_two : Lin two_of
+unfolding two_of num
+lin_two =
     above (both (both (both (lup 7 id) (lup 16 id)) (lup 39 id)) (both (both (lup 55 id) (lup 57 id)) (lup 59 id)))
     (above
     (both (both (both (both (down 57 id) (down 48 id)) (down 25 id)) (both (both (down 9 id) (down 7 id)) (down 5 id))) (lup 7 id))
     (above (down 57 id) (above lin_zero lin_zero)))
 
-mid_zero : steps 192 0 ≡ steps 128 (mid_of 0)
-unfolding steps step mid_of num over
-mid_zero = refl
+two_zero : steps 192 0 ≡ steps 128 (two_of 0)
+unfolding steps step two_of num over
+two_zero = refl
 
-mid_top : steps 192 (2 ^ 63) ≡ steps 128 (mid_of (2 ^ 63))
-unfolding steps step mid_of num over
-mid_top = refl
+two_top : steps 192 (2 ^ 63) ≡ steps 128 (two_of (2 ^ 63))
+unfolding steps step two_of num over
+two_top = refl
 
-mid_falls : T (falls mid_of 63)
-unfolding falls step mid_of num over
-mid_falls = tt
+two_falls : T (falls two_of 63)
+unfolding falls step two_of num over
+two_falls = tt
 
-mid_word : (y : ℕ) → y < 2 ^ 64 → steps 192 y ≡ steps 128 (mid_of y)
-mid_word = put_off 128 mid_of lin_mid mid_falls mid_zero mid_top
+two_word : (y : ℕ) → y < 2 ^ 64 → steps 192 y ≡ steps 128 (two_of y)
+two_word = put_off 128 two_of lin_two two_falls two_zero two_top
 
 -- and x^96
-unfoldable near_of : ℕ → ℕ
-near_of y = num (fifth y) (fifth (y / 2 ^ 32) / 2 ^ 32) 0 0 0
+unfoldable one_of : ℕ → ℕ
+one_of y = num (fifth y) (fifth (y / 2 ^ 32) / 2 ^ 32) 0 0 0
 
-lin_near : Lin near_of
-unfolding near_of num
-lin_near = above lin_fifth (above (down 32 (after lin_fifth (down 32 id))) (above lin_zero (above lin_zero lin_zero)))
+lin_one : Lin one_of
+unfolding one_of num
+lin_one = above lin_fifth (above (down 32 (after lin_fifth (down 32 id))) (above lin_zero (above lin_zero lin_zero)))
 
-near_zero : steps 128 0 ≡ steps 64 (near_of 0)
-unfolding steps step near_of num over fifth
-near_zero = refl
+one_zero : steps 128 0 ≡ steps 64 (one_of 0)
+unfolding steps step one_of num over fifth
+one_zero = refl
 
-near_top : steps 128 (2 ^ 63) ≡ steps 64 (near_of (2 ^ 63))
-unfolding steps step near_of num over fifth
-near_top = refl
+one_top : steps 128 (2 ^ 63) ≡ steps 64 (one_of (2 ^ 63))
+unfolding steps step one_of num over fifth
+one_top = refl
 
-near_falls : T (falls near_of 63)
-unfolding falls step near_of num over fifth
-near_falls = tt
+one_falls : T (falls one_of 63)
+unfolding falls step one_of num over fifth
+one_falls = tt
 
-near_word : (y : ℕ) → y < 2 ^ 64 → steps 128 y ≡ steps 64 (near_of y)
-near_word = put_off 64 near_of lin_near near_falls near_zero near_top
+one_word : (y : ℕ) → y < 2 ^ 64 → steps 128 y ≡ steps 64 (one_of y)
+one_word = put_off 64 one_of lin_one one_falls one_zero one_top
 
-num_xor : (a b c d e p q r s t : ℕ)
+pub num_xor : (a b c d e p q r s t : ℕ)
     → bit_xor (num a b c d e) (num p q r s t) ≡ num (bit_xor a p) (bit_xor b q) (bit_xor c r) (bit_xor d s) (bit_xor e t)
 unfolding num
 num_xor a b c d e p q r s t =
@@ -213,6 +214,13 @@ turned k a b c d e w f h n q =
     ∙ sym (steps_xor (k + n) (bit_xor q t) f)
     ∙ ap (steps (k + n)) (xor_assoc q t f)
 
+-- where more bits come after
+turn_later : (k m w z r : ℕ) → k ≤ m → Turn k w z r → Turn m w z r
+unfolding Turn
+turn_later k m w z r l t n q =
+    let e : m + n ≡ k + (m - k + n) = omega arith in
+    ap (λ (i : ℕ). steps (64 + i) (bit_xor (over w q) z)) e ∙ t (m - k + n) q ∙ ap (λ (i : ℕ). steps i (bit_xor q r)) (sym e)
+
 module _ (a b c d e w : ℕ) (l : w < 2 ^ 64) (m : a < 2 ^ 64) where
   pub far_turn : Turn 268 w (num a b c d e)
       (num b
@@ -230,7 +238,7 @@ module _ (a b c d e w : ℕ) (l : w < 2 ^ 64) (m : a < 2 ^ 64) where
       (num_xor b c d e 0 0 f g h (y / 2 ^ 20) ∙ ap (λ (x : ℕ). num x (bit_xor c f) (bit_xor d g) (bit_xor e h) (y / 2 ^ 20)) (xor_zero_r b))
       (turned 268 a b c d e w (far_of y) (far_word y (xor_lt 64 w a l m)))
 
-  pub with_four_turn : Turn 242 w (num a b c d e)
+  pub with_four_turn : Turn 256 w (num a b c d e)
       (num b (bit_xor c (up 53 (bit_xor w a))) (bit_xor d (bit_xor (bit_xor ((bit_xor w a) / 2 ^ 11) (up 7 (bit_xor w a))) (up 63 (bit_xor w a)))) (bit_xor e (bit_xor (bit_xor ((bit_xor w a) / 2 ^ 57) ((bit_xor w a) / 2 ^ 1)) (bit_xor (up 7 (bit_xor w a)) (up 18 (bit_xor w a))))) (bit_xor ((bit_xor w a) / 2 ^ 57) ((bit_xor w a) / 2 ^ 46)))
   unfolding four_of
   with_four_turn =
@@ -238,11 +246,12 @@ module _ (a b c d e w : ℕ) (l : w < 2 ^ 64) (m : a < 2 ^ 64) where
       let f = (up 53 y) in
       let g = (bit_xor (bit_xor (y / 2 ^ 11) (up 7 y)) (up 63 y)) in
       let h = (bit_xor (bit_xor (y / 2 ^ 57) (y / 2 ^ 1)) (bit_xor (up 7 y) (up 18 y))) in
-      subst (Turn 242 w (num a b c d e))
+      turn_later 242 256 w (num a b c d e) _ (omega arith)
+      (subst (Turn 242 w (num a b c d e))
       (num_xor b c d e 0 0 f g h (bit_xor (y / 2 ^ 57) (y / 2 ^ 46)) ∙ ap (λ (x : ℕ). num x (bit_xor c f) (bit_xor d g) (bit_xor e h) (bit_xor (y / 2 ^ 57) (y / 2 ^ 46))) (xor_zero_r b))
-      (turned 242 a b c d e w (four_of y) (four_word y (xor_lt 64 w a l m)))
+      (turned 242 a b c d e w (four_of y) (four_word y (xor_lt 64 w a l m))))
 
-  pub with_three_turn : Turn 180 w (num a b c d e)
+  pub with_three_turn : Turn 192 w (num a b c d e)
       (num b (bit_xor c (bit_xor (bit_xor (bit_xor (up 1 (bit_xor w a)) (up 10 (bit_xor w a))) (up 22 (bit_xor w a))) (bit_xor (up 41 (bit_xor w a)) (up 55 (bit_xor w a))))) (bit_xor d (bit_xor (bit_xor (bit_xor (bit_xor ((bit_xor w a) / 2 ^ 63) ((bit_xor w a) / 2 ^ 54)) ((bit_xor w a) / 2 ^ 42)) (bit_xor ((bit_xor w a) / 2 ^ 23) ((bit_xor w a) / 2 ^ 9))) (up 20 (bit_xor w a)))) (bit_xor e ((bit_xor w a) / 2 ^ 44)) 0)
   unfolding three_of
   with_three_turn =
@@ -250,11 +259,12 @@ module _ (a b c d e w : ℕ) (l : w < 2 ^ 64) (m : a < 2 ^ 64) where
       let f = (bit_xor (bit_xor (bit_xor (up 1 y) (up 10 y)) (up 22 y)) (bit_xor (up 41 y) (up 55 y))) in
       let g = (bit_xor (bit_xor (bit_xor (bit_xor (y / 2 ^ 63) (y / 2 ^ 54)) (y / 2 ^ 42)) (bit_xor (y / 2 ^ 23) (y / 2 ^ 9))) (up 20 y)) in
       let h = (y / 2 ^ 44) in
-      subst (Turn 180 w (num a b c d e))
+      turn_later 180 192 w (num a b c d e) _ (omega arith)
+      (subst (Turn 180 w (num a b c d e))
       (num_xor b c d e 0 0 f g h 0 ∙ ap (λ (x : ℕ). num x (bit_xor c f) (bit_xor d g) (bit_xor e h) 0) (xor_zero_r b))
-      (turned 180 a b c d e w (three_of y) (three_word y (xor_lt 64 w a l m)))
+      (turned 180 a b c d e w (three_of y) (three_word y (xor_lt 64 w a l m))))
 
-  pub mid_turn : Turn 128 w (num a b c d e)
+  pub with_two_turn : Turn 128 w (num a b c d e)
       (num
       (bit_xor b
       (bit_xor (bit_xor (bit_xor (up 7 (bit_xor w a)) (up 16 (bit_xor w a))) (up 39 (bit_xor w a)))
@@ -267,26 +277,26 @@ module _ (a b c d e w : ℕ) (l : w < 2 ^ 64) (m : a < 2 ^ 64) where
       (bit_xor d (bit_xor w a / 2 ^ 57))
       e
       0)
-  unfolding mid_of
-  mid_turn =
+  unfolding two_of
+  with_two_turn =
       let y = bit_xor w a in
       let f = bit_xor (bit_xor (bit_xor (up 7 y) (up 16 y)) (up 39 y)) (bit_xor (bit_xor (up 55 y) (up 57 y)) (up 59 y)) in
       let g = bit_xor (bit_xor (bit_xor (bit_xor (y / 2 ^ 57) (y / 2 ^ 48)) (y / 2 ^ 25)) (bit_xor (bit_xor (y / 2 ^ 9) (y / 2 ^ 7)) (y / 2 ^ 5))) (up 7 y) in
       let h = y / 2 ^ 57 in
       subst (Turn 128 w (num a b c d e))
       (num_xor b c d e 0 f g h 0 0 ∙ ap (λ (x : ℕ). num (bit_xor b f) (bit_xor c g) (bit_xor d h) x 0) (xor_zero_r e))
-      (turned 128 a b c d e w (mid_of y) (mid_word y (xor_lt 64 w a l m)))
+      (turned 128 a b c d e w (two_of y) (two_word y (xor_lt 64 w a l m)))
 
-  pub near_turn : Turn 64 w (num a b c d e)
+  pub with_one_turn : Turn 64 w (num a b c d e)
       (num (bit_xor b (fifth (bit_xor w a))) (bit_xor c (fifth (bit_xor w a / 2 ^ 32) / 2 ^ 32)) d e 0)
-  unfolding near_of
-  near_turn =
+  unfolding one_of
+  with_one_turn =
       let y = bit_xor w a in
       let f = fifth y in
       let g = fifth (y / 2 ^ 32) / 2 ^ 32 in
       subst (Turn 64 w (num a b c d e))
       (num_xor b c d e 0 f g 0 0 0 ∙ ap₂ (λ (x z : ℕ). num (bit_xor b f) (bit_xor c g) x z 0) (xor_zero_r d) (xor_zero_r e))
-      (turned 64 a b c d e w (near_of y) (near_word y (xor_lt 64 w a l m)))
+      (turned 64 a b c d e w (one_of y) (one_word y (xor_lt 64 w a l m)))
 
 pub last_turn : (a b c d e w : ℕ) → Turn 0 w (num a b c d e) (num (bit_xor b (steps 64 (bit_xor w a))) c d e 0)
 last_turn a b c d e w =

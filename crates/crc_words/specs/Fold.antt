@@ -2,7 +2,7 @@
 -- What the code keeps instead of the register: up to five words that are still to be taken into the bytes to come. A word y that was read is
 -- put off: where at least k bits come after it, 64 + k steps of y are k steps of a number that y's shifts make.
 -- Assumes nothing.
-use Rattle.std.specs.Prelude.{◌≡◌, List, ℕ, ◌+◌, ◌-◌, ◌*◌, ◌/◌, ◌%◌, ◌^◌, length, drop}
+use Rattle.std.specs.Prelude.{◌≡◌, List, [], ◌∷◌, ◌++◌, ℕ, ◌≤◌, ◌+◌, ◌*◌, ◌/◌, ◌%◌, ◌^◌, length}
 use Rattle.std.specs.Int.Bits.{bit_xor}
 use Rattle.little_endian.specs.LittleEndian.{word}
 use Rattle.crc_steps.specs.Crc32.{steps}
@@ -41,9 +41,21 @@ past h = past_of h.p h.q h.r h.s h.t
 unfoldable pub Turn : ℕ → ℕ → ℕ → ℕ → Type 0
 Turn k w z r = (n q : ℕ) → steps (64 + (k + n)) (bit_xor (over w q) z) ≡ steps (k + n) (bit_xor q r)
 
--- the register at the end of s, where the bytes from i on are still to be read and z is pending
-unfoldable pub left : List ℕ → ℕ → ℕ → ℕ
-left s i z = steps (8 * (length s - i)) (bit_xor (word (drop i s)) z)
+-- the number that words stand for, each of eight bytes
+unfoldable pub number : List (List ℕ) → ℕ
+number [] = 0
+number (w ∷ ws) = over (word w) (number ws)
+
+-- the register after the words, where z is pending
+unfoldable pub register_after : List (List ℕ) → ℕ → ℕ
+register_after ws z = steps (64 * length ws) (bit_xor (number ws) z)
+
+-- xs is read with z pending, and r is pending after it, where at least n more come after: `after` is the register at the end
+unfoldable pub Passed : {A : Type 0} → (List A → ℕ → ℕ) → ℕ → List A → ℕ → ℕ → Type 0
+Passed {A} after n xs z r = (rest : List A) → n ≤ length rest → after (xs ++ rest) z ≡ after rest r
+
+abbrev pub Far : List (List ℕ) → ℕ → ℕ → Type 0
+Far = Passed register_after 5
 
 -- x^31 + x^30 + x^27 + x^26 + x^23 + x^21 + x^19 + x^17 + x^7 + x^4 + x^3 + x^2 + x is x^96, up to a multiple of the polynomial
 unfoldable pub fifth : ℕ → ℕ

@@ -6,18 +6,31 @@
 // they are put off far, by few shifts; near the end by more, and less far; the last is divided.
 #![tactic(auto)]
 
-ghost use Rattle.std.specs.Prelude.{◌≡◌, ℕ, ◌+◌, ◌-◌, ◌*◌, ◌/◌, ◌%◌, ◌<◌, ◌≤◌, ◌^◌, length, drop};
+ghost use Rattle.std.specs.Prelude.{◌≡◌, ℕ, ◌+◌, ◌-◌, ◌*◌, ◌/◌, ◌%◌, ◌<◌, ◌≤◌, ◌^◌, List, [], ◌∷◌, ◌++◌, length, drop};
+ghost use Rattle.std.specs.List.{flat_map};
 ghost use Rattle.std.specs.Int.Bits.{bit_xor};
 ghost use Rattle.little_endian.specs.LittleEndian.{word};
 ghost use Rattle.crc_steps.specs.Crc32.{steps, crc_over};
-ghost use Rattle.crc_words.specs.Fold.{up, num, held, past, pulled, over, left, Turn, fifth};
+ghost use Rattle.std.specs.Simd.{first_chunks};
+ghost use Rattle.crc_words.specs.Fold.{up, num, held, past, pulled, over, register_after, Turn, Far, fifth};
 
-mod load;
+// As many bytes as make a word.
+const WORD: usize = 8;
 
-use crate::load::load;
+// As many words as are pending, and as are taken in a turn where many come.
+const FIVE: usize = 5;
 
-// What is still to be taken into the bytes to come, the lowest word first.
-#[derive(Clone, Copy)]
+// The first byte is the lowest.
+type Word = [u8; WORD];
+
+fn load(bytes: &Word) -> u64
+    ensures { result ≡ word bytes.now }
+{
+    little_endian::get(bytes)
+}
+
+// What is still to be taken into the words to come, the next first.
+#[derive(Clone, Copy, Default)]
 struct Pend {
     a: u64,
     b: u64,
@@ -27,6 +40,7 @@ struct Pend {
 }
 
 // x^300 + x^155 + x^117 + x^89 + 1 is a multiple of the polynomial: a word is put off 145, 183, 211 and 300 bits, where 268 bits come after.
+#[tactic(auto, using(crate::proofs::Turns::far_turn))]
 fn far(z: Pend, w: u64) -> Pend
     ensures { Turn 268 w (held z) (held result) }
 {
@@ -41,6 +55,7 @@ fn far(z: Pend, w: u64) -> Pend
 }
 
 // What is left of x^96.
+#[tactic(auto, unfolding(crate::specs::Fold::fifth))]
 fn times_fifth(w: u64) -> u64
     ensures { result ≡ fifth w }
 {
@@ -50,7 +65,8 @@ fn times_fifth(w: u64) -> u64
 }
 
 // At least one word comes after.
-fn near(z: Pend, w: u64) -> Pend
+#[tactic(auto, using(crate::proofs::Turns::with_one_turn))]
+fn with_one(z: Pend, w: u64) -> Pend
     ensures { Turn 64 w (held z) (held result) }
 {
     let y = w ^ z.a;
@@ -66,8 +82,9 @@ fn near(z: Pend, w: u64) -> Pend
 }
 
 // Another: 181, 199, 255, 263 and 274 bits, where four words come after.
+#[tactic(auto, using(crate::proofs::Turns::with_four_turn))]
 fn with_four(z: Pend, w: u64) -> Pend
-    ensures { Turn 242 w (held z) (held result) }
+    ensures { Turn 256 w (held z) (held result) }
 {
     let y = w ^ z.a;
     Pend {
@@ -80,8 +97,9 @@ fn with_four(z: Pend, w: u64) -> Pend
 }
 
 // Another: 129, 138, 150, 169, 183 and 212 bits, where three words come after.
+#[tactic(auto, using(crate::proofs::Turns::with_three_turn))]
 fn with_three(z: Pend, w: u64) -> Pend
-    ensures { Turn 180 w (held z) (held result) }
+    ensures { Turn 192 w (held z) (held result) }
 {
     let y = w ^ z.a;
     Pend {
@@ -94,7 +112,8 @@ fn with_three(z: Pend, w: u64) -> Pend
 }
 
 // Another: 71, 80, 103, 119, 121, 123 and 135 bits, where two words come after.
-fn mid(z: Pend, w: u64) -> Pend
+#[tactic(auto, using(crate::proofs::Turns::with_two_turn))]
+fn with_two(z: Pend, w: u64) -> Pend
     ensures { Turn 128 w (held z) (held result) }
 {
     let y = w ^ z.a;
@@ -110,6 +129,7 @@ fn mid(z: Pend, w: u64) -> Pend
 
 // The register after a word, with no table: how often the polynomial goes into it, of which the high half counts, and what is left then. Each
 // is a product without carries, by a number of 28 bits and one of 15; shifts that bits have in common are made once.
+#[tactic(auto, using(crate::proofs::Turns::divided))]
 fn fold(w: u64) -> u64
     ensures { result ≡ steps 64 w }
 {
@@ -124,18 +144,12 @@ fn fold(w: u64) -> u64
     ((c ^ (q << 9) ^ (c << 10)) ^ ((d << 20) ^ (d << 21) ^ (d << 22))) >> 32
 }
 
-// No word comes after.
-fn last(z: Pend, w: u64) -> Pend
-    ensures { Turn 0 w (held z) (held result) }
+// No word comes after: what is pending then is the register.
+fn with_none(z: Pend, w: u64) -> u32
+    requires { steps 64 (bit_xor w (held z)) < 2 ^ 32 }
+    ensures { result ≡ steps 64 (bit_xor w (held z)) }
 {
-    let f = fold(w ^ z.a);
-    Pend {
-        a: z.b ^ f,
-        b: z.c,
-        c: z.d,
-        d: z.e,
-        e: 0,
-    }
+    (z.b ^ fold(w ^ z.a)) as u32
 }
 
 // The register as it is pending on the last h bytes of a word: zeros before them, and before the register, change nothing.
@@ -147,66 +161,47 @@ fn on_last(register: u32, h: usize) -> Pend
     Pend {
         a: c << (64 - 8 * h),
         b: c >> (8 * h),
-        c: 0,
-        d: 0,
-        e: 0,
+        ..Pend::default()
     }
 }
 
 // The register after fewer bytes than a word has.
-fn few(register: u32, s: &[u8]) -> u32
-    requires { length s.now < 8 }
-    ensures { result ≡ crc_over register s.now }
+fn few(register: u32, bytes: &[u8]) -> u32
+    requires { length bytes.now < 8 }
+    ensures { result ≡ crc_over register bytes.now }
 {
-    let h = s.len();
+    let h = bytes.len();
     if h == 0 {
         return register;
     }
-    let w = last(on_last(register, h), little_endian::get(s) << (64 - 8 * h));
-    w.a as u32
+    with_none(
+        on_last(register, h),
+        little_endian::get(bytes) << (64 - 8 * h),
+    )
 }
 
-// The first h bytes as a word of their own.
-fn head(register: u32, s: &[u8], h: usize) -> Pend
-    requires { (0 < h) × (h < 8) × (h + 8 ≤ length s.now) }
-    ensures { left s.now h (held result) ≡ crc_over register s.now }
+// What is pending where whole words follow: the first odd bytes are put off as a word of their own.
+fn start(register: u32, bytes: &[u8]) -> Pend
+    requires { 8 ≤ length bytes.now }
+    ensures { register_after (first_chunks 8 (length bytes.now / 8) (drop (length bytes.now % 8) bytes.now)) (held result)
+        ≡ crc_over register bytes.now }
 {
-    near(on_last(register, h), load(s, 0) << (64 - 8 * h))
-}
-
-// What is pending where whole words follow.
-fn start(register: u32, s: &[u8], h: usize) -> Pend
-    requires { (h < 8) × (h + 8 ≤ length s.now) }
-    ensures { left s.now h (held result) ≡ crc_over register s.now }
-{
+    let h = bytes.len() % WORD;
     if h == 0 {
         return Pend {
             a: register as u64,
-            b: 0,
-            c: 0,
-            d: 0,
-            e: 0,
+            ..Pend::default()
         };
     }
-    head(register, s, h)
-}
-
-fn far_at(z: Pend, s: &[u8], i: usize) -> Pend
-    requires { i + 48 ≤ length s.now }
-    ensures { left s.now i (held z) ≡ left s.now (i + 8) (held result) }
-{
-    far(z, load(s, i))
-}
-
-#[derive(Clone, Copy)]
-struct At {
-    z: Pend,
-    i: usize,
+    with_one(
+        on_last(register, h),
+        little_endian::get(&bytes[..WORD]) << (64 - 8 * h),
+    )
 }
 
 // Where many words come, the last five as they were put off are kept instead, the newest first: then what is pending on a word is made
 // when it is read, and two words' bits move in one instruction.
-#[derive(Clone, Copy)]
+#[derive(Clone, Copy, Default)]
 struct Past {
     p: u64,
     q: u64,
@@ -215,19 +210,7 @@ struct Past {
     t: u64,
 }
 
-// No word yet.
-fn none() -> Past
-    ensures { past result ≡ 0 }
-{
-    Past {
-        p: 0,
-        q: 0,
-        r: 0,
-        s: 0,
-        t: 0,
-    }
-}
-
+#[tactic(auto, unfolding(crate::specs::Fold::pulled))]
 fn pull(a: u64, b: u64, c: u64, d: u64) -> u64
     ensures { result ≡ pulled a b c d }
 {
@@ -236,15 +219,12 @@ fn pull(a: u64, b: u64, c: u64, d: u64) -> u64
         ^ ((c >> 45) ^ (d >> 20))
 }
 
-// A word at i, with x besides.
-fn turn(h: Past, x: u64, s: &[u8], i: usize) -> Past
-    requires { i + 48 ≤ length s.now }
-    ensures { (t : ℕ) → left s.now i (bit_xor (past h) (over x t))
-        ≡ left s.now (i + 8) (bit_xor (past result) t) }
+// A word, with x besides.
+fn turn(h: Past, x: u64, word: &Word) -> Past
+    ensures { (t : ℕ) → Far (word.now ∷ []) (bit_xor (past h) (over x t)) (bit_xor (past result) t) }
 {
-    let y = (load(s, i) ^ x) ^ pull(h.q, h.r, h.s, h.t);
     Past {
-        p: y,
+        p: (load(word) ^ x) ^ pull(h.q, h.r, h.s, h.t),
         q: h.p,
         r: h.q,
         s: h.r,
@@ -252,161 +232,137 @@ fn turn(h: Past, x: u64, s: &[u8], i: usize) -> Past
     }
 }
 
-// Five words at i, with x besides.
-fn five(h: Past, x: Pend, s: &[u8], i: usize) -> Past
-    requires { i + 80 ≤ length s.now }
-    ensures { left s.now i (bit_xor (past h) (held x)) ≡ left s.now (i + 40) (past result) }
+// Five words, with x besides.
+fn five(h: Past, x: Pend, words: &[Word; FIVE]) -> Past
+    ensures { Far words.now (bit_xor (past h) (held x)) (past result) }
 {
-    let two = turn(turn(h, x.a, s, i), x.b, s, i + 8);
-    let four = turn(turn(two, x.c, s, i + 16), x.d, s, i + 24);
-    turn(four, x.e, s, i + 32)
+    let two = turn(turn(h, x.a, &words[0]), x.b, &words[1]);
+    let four = turn(turn(two, x.c, &words[2]), x.d, &words[3]);
+    turn(four, x.e, &words[4])
 }
 
-fn settle(h: Past) -> Pend
-    ensures { held result ≡ past h }
-{
-    Pend {
-        a: pull(h.q, h.r, h.s, h.t),
-        b: pull(h.p, h.q, h.r, h.s),
-        c: pull(0, h.p, h.q, h.r),
-        d: pull(0, 0, h.p, h.q),
-        e: pull(0, 0, 0, h.p),
+impl From<Past> for Pend {
+    #[tactic(auto, unfolding(crate::specs::Fold::past_of))]
+    fn from(h: Past) -> Pend
+        ensures { held result ≡ past h }
+    {
+        Pend {
+            a: pull(h.q, h.r, h.s, h.t),
+            b: pull(h.p, h.q, h.r, h.s),
+            c: pull(0, h.p, h.q, h.r),
+            d: pull(0, 0, h.p, h.q),
+            e: pull(0, 0, 0, h.p),
+        }
     }
 }
 
-// The words from `at` on, five a turn.
-fn fives(from: Pend, s: &[u8], at: usize) -> At
-    requires { (at + 80 ≤ length s.now) × ((length s.now - at) % 8 ≡ 0) }
-    ensures { (result.i + 40 ≤ length s.now)
-        × ((length s.now - result.i) % 8 ≡ 0)
-        × (left s.now at (held from) ≡ left s.now result.i (held result.z)) }
+// Five words a turn.
+fn fives(from: Pend, first: &[Word; FIVE], blocks: &[[Word; FIVE]]) -> Pend
+    ensures { Far (first.now ++ flat_map (λ words. words) blocks.now) (held from) (held result) }
 {
-    let nothing = Pend {
-        a: 0,
-        b: 0,
-        c: 0,
-        d: 0,
-        e: 0,
-    };
-    let mut h = five(none(), from, s, at);
-    let mut i = at + 40;
-    while 80 <= s.len() - i {
-        h = five(h, nothing, s, i);
-        i += 40;
+    let mut h = five(Past::default(), from, first);
+    for words in blocks {
+        h = five(h, Pend::default(), words);
     }
-    At { z: settle(h), i }
+    Pend::from(h)
 }
 
-// Below so many bytes it is not worth while.
-const MANY: usize = 120;
-
-fn many(from: Pend, s: &[u8], at: usize) -> At
-    requires { (at + 40 ≤ length s.now) × ((length s.now - at) % 8 ≡ 0) }
-    ensures { (result.i + 40 ≤ length s.now)
-        × ((length s.now - result.i) % 8 ≡ 0)
-        × (left s.now at (held from) ≡ left s.now result.i (held result.z)) }
-{
-    if s.len() - at < MANY {
-        return At { z: from, i: at };
-    }
-    fives(from, s, at)
-}
-
-// The words from `at` on, up to the last five.
-fn far_to(from: Pend, s: &[u8], at: usize) -> Pend
-    requires { (at + 40 ≤ length s.now) × ((length s.now - at) % 8 ≡ 0) }
-    ensures { left s.now at (held from) ≡ left s.now (length s.now - 40) (held result) }
+// A word a turn.
+fn singles(from: Pend, words: &[Word]) -> Pend
+    ensures { Far words.now (held from) (held result) }
 {
     let mut z = from;
-    let mut i = at;
-    while 48 <= s.len() - i {
-        z = far_at(z, s, i);
-        i += 8;
+    for word in words {
+        z = far(z, load(word));
     }
     z
 }
 
-// The first three words of eight, with no loop: over so few words its tests cost as much as the turns.
-fn three(register: u32, s: &[u8]) -> Pend
-    requires { length s.now ≡ 64 }
-    ensures { left s.now (length s.now - 40) (held result) ≡ crc_over register s.now }
+// Three words with no loop: over so few its tests cost as much as the turns.
+fn three(z: Pend, first: &Word, second: &Word, third: &Word) -> Pend
+    ensures { Far (first.now ∷ second.now ∷ third.now ∷ []) (held z) (held result) }
 {
-    let two = turn(turn(none(), register as u64, s, 0), 0, s, 8);
-    settle(turn(two, 0, s, 16))
-}
-
-// What is pending where five words are left, and then four, three, two and one, from z, which is pending after the odd bytes. Each is called
-// once, so that LLVM makes one piece of all, which tests the length first and then runs to the end in registers.
-fn to_five(register: u32, z: Pend, s: &[u8]) -> Pend
-    requires { (40 ≤ length s.now) × (left s.now (length s.now % 8) (held z) ≡ crc_over register s.now) }
-    ensures { left s.now (length s.now - 40) (held result) ≡ crc_over register s.now }
-{
-    if s.len() == 64 {
-        return three(register, s);
+    let two = turn(turn(Past::default(), z.a, first), z.b, second);
+    let later = Pend::from(turn(two, z.c, third));
+    Pend {
+        a: later.a ^ z.d,
+        b: later.b ^ z.e,
+        ..later
     }
-    let m = many(z, s, s.len() % 8);
-    let y = m.z;
-    let i = m.i;
-    far_to(y, s, i)
 }
 
-fn to_four(register: u32, z: Pend, s: &[u8]) -> Pend
-    requires { (32 ≤ length s.now) × (left s.now (length s.now % 8) (held z) ≡ crc_over register s.now) }
-    ensures { left s.now (length s.now - 32) (held result) ≡ crc_over register s.now }
+// Below so many words it is not worth while to take five a turn.
+const MANY: usize = 10;
+
+// The words before the last five.
+fn put_far(z: Pend, words: &[Word]) -> Pend
+    ensures { Far words.now (held z) (held result) }
 {
-    if s.len() < 40 {
+    if let [first, second, third] = words {
+        return three(z, first, second, third);
+    }
+    if words.len() < MANY {
+        return singles(z, words);
+    }
+    let (blocks, rest) = words.as_chunks::<FIVE>();
+    match blocks.split_first() {
+        Some((first, others)) => singles(fives(z, first, others), rest),
+        None => singles(z, words),
+    }
+}
+
+// What is pending where five words are left.
+fn to_five(z: Pend, words: &[Word]) -> Pend
+    ensures { register_after words.now (held z) ≡ register_after (drop (length words.now - 5) words.now) (held result) }
+{
+    if words.len() <= FIVE {
         return z;
     }
-    with_four(to_five(register, z, s), load(s, s.len() - 40))
+    put_far(z, &words[..words.len() - FIVE])
 }
 
-fn to_three(register: u32, z: Pend, s: &[u8]) -> Pend
-    requires { (24 ≤ length s.now) × (left s.now (length s.now % 8) (held z) ≡ crc_over register s.now) }
-    ensures { left s.now (length s.now - 24) (held result) ≡ crc_over register s.now }
+// What is pending on the last `after` words. Where there are more, `earlier` says what is pending on the word before them, and `turn` puts it off.
+fn put_off<E: FnOnce() -> Pend, F: Fn(Pend, u64) -> Pend>(
+    z: Pend,
+    words: &[Word],
+    after: usize,
+    earlier: E,
+    turn: F,
+) -> Pend
+    requires earlier_callable { E.IsAlwaysCallable earlier }
+    requires turn_callable { F.IsAlwaysCallable turn }
+    requires reaches { (r : Pend) → E.post earlier r
+        → register_after (drop (length words.now - (after + 1)) words.now) (held r) ≡ register_after words.now (held z) }
+    requires turns { (y r : Pend) (w : ℕ) → F.post turn y w r → Turn (64 * after) w (held y) (held r) }
+    ensures { register_after (drop (length words.now - after) words.now) (held result) ≡ register_after words.now (held z) }
 {
-    if s.len() < 32 {
+    if words.len() <= after {
         return z;
     }
-    with_three(to_four(register, z, s), load(s, s.len() - 32))
+    turn(earlier(), load(&words[words.len() - after - 1]))
 }
 
-fn to_two(register: u32, z: Pend, s: &[u8]) -> Pend
-    requires { (16 ≤ length s.now) × (left s.now (length s.now % 8) (held z) ≡ crc_over register s.now) }
-    ensures { left s.now (length s.now - 16) (held result) ≡ crc_over register s.now }
+// The register after the words. Each turn asks for the one before it only where there is a word for it, so that few words take few tests.
+fn over_words(z: Pend, words: &[Word]) -> u32
+    requires words { 0 < length words.now }
+    requires register { register_after words.now (held z) < 2 ^ 32 }
+    ensures { result ≡ register_after words.now (held z) }
 {
-    if s.len() < 24 {
-        return z;
-    }
-    mid(to_three(register, z, s), load(s, s.len() - 24))
-}
-
-fn to_one(register: u32, z: Pend, s: &[u8]) -> Pend
-    requires { (8 ≤ length s.now) × (left s.now (length s.now % 8) (held z) ≡ crc_over register s.now) }
-    ensures { left s.now (length s.now - 8) (held result) ≡ crc_over register s.now }
-{
-    if s.len() < 16 {
-        return z;
-    }
-    near(to_two(register, z, s), load(s, s.len() - 16))
-}
-
-// The last word.
-fn end(z: Pend, s: &[u8], i: usize) -> u32
-    requires { (i + 8 ≡ length s.now) × (left s.now i (held z) < 2 ^ 32) }
-    ensures { result ≡ left s.now i (held z) }
-{
-    let w = last(z, load(s, i));
-    w.a as u32
+    let five = || to_five(z, words);
+    let four = || put_off(z, words, 4, five, with_four);
+    let three = || put_off(z, words, 3, four, with_three);
+    let two = || put_off(z, words, 2, three, with_two);
+    let one = put_off(z, words, 1, two, with_one);
+    with_none(one, load(&words[words.len() - 1]))
 }
 
 // The register after `bytes`.
 pub fn over(register: u32, bytes: &[u8]) -> u32
     ensures { result ≡ crc_over register bytes.now }
 {
-    let n = bytes.len();
-    if n < 8 {
+    if bytes.len() < WORD {
         return few(register, bytes);
     }
-    let one = to_one(register, start(register, bytes, n % 8), bytes);
-    end(one, bytes, n - 8)
+    let (_, words) = bytes.as_rchunks::<WORD>();
+    over_words(start(register, bytes), words)
 }

@@ -3,7 +3,7 @@
 //
 //     // moved_ids, moved_locations: caps.ids - 1 rows each
 //     match defrag::objects_to_defrag(caps, &locations, &slot_marks, &owners, &batch, &tallies, 0.75, &mut moved_ids, &mut moved_locations) {
-//         Ok(n) => ..,           // the first n rows, by slab, then slot
+//         Ok(n) => ..,         // the first n rows, by slab, then slot
 //         Err(refusal) => ..,  // 1, 11, 14
 //     }
 //

@@ -10,13 +10,7 @@ fn movable(locations: &[u64], owner: u64, location: u64) -> bool
     ensures { result ≡ movable_at locations.now owner location }
 {
     let id = owner as usize;
-    if id == 0 {
-        return false;
-    }
-    if id >= locations.len() {
-        return false;
-    }
-    locations[id] == location
+    id > 0 && id < locations.len() && locations[id] == location
 }
 
 // The row of one slot, where it has one, at row n; how many rows there are then.
@@ -60,19 +54,15 @@ pub(crate) fn add_rows(
         (locations_of (listed_of locations.now first owners.now))) }
 {
     let mut n = from;
-    let mut location = first;
-    let mut i: usize = 0;
-    while i < owners.len() {
+    for (i, owner) in owners.iter().enumerate() {
         n = add_row(
             locations,
-            owners[i],
-            location,
+            *owner,
+            first + i as u64,
             moved_ids,
             moved_locations,
             n,
         );
-        location += 1;
-        i += 1;
     }
     n
 }

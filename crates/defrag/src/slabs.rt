@@ -6,9 +6,9 @@ ghost use Rattle.fragmentation.specs.Cutoff.{is_ratio};
 ghost use Rattle.model.specs.Tables.{ids_of, locations_of};
 ghost use Rattle.defrag.specs.Listed.{start_of, span_of, slab_rows, listed_from};
 
-use refusal::Refusal;
 use crate::rows::add_rows;
 use address::SlabAddress;
+use refusal::Refusal;
 
 // The slots of a slab to look at: from the first on, below the tip.
 #[derive(Clone, Copy)]
@@ -22,8 +22,7 @@ fn start(cutoff: Result<Option<usize>, Refusal>, tip: usize) -> usize
 {
     match cutoff {
         Ok(Some(slot)) => slot,
-        Ok(None) => tip,
-        Err(_) => tip,
+        Ok(None) | Err(_) => tip,
     }
 }
 
@@ -136,8 +135,7 @@ pub(crate) fn list_all(
         r slabs 0))) }
 {
     let mut n: usize = 0;
-    let mut slab: usize = 0;
-    while slab < SlabAddress::SLABS {
+    for slab in 0..SlabAddress::SLABS {
         n = add_slab(
             slots,
             locations,
@@ -150,7 +148,6 @@ pub(crate) fn list_all(
             moved_locations,
             n,
         );
-        slab += 1;
     }
     n
 }

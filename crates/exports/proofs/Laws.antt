@@ -18,9 +18,7 @@ use Rattle.model.specs.Step.{refusal, unless}
 use Rattle.model.specs.Verdict.{Verdict, ok, refuse}
 use Rattle.lookup.specs.Lookup.{looked_answer}
 use Rattle.lookup_page.specs.Page as Page
-use Rattle.offer.specs.Outcome.{Left, offered_answer}
 use Rattle.snapshot_writer.specs.Outcome as Written
-use Rattle.snapshot_writer.specs.Outcome.{written_answer}
 use Rattle.exports_status.specs.Status.{status_of, values_in, exported}
 use Rattle.exports.specs.Answers.{where_fits}
 use Rattle.exports.specs.Pages.{ExportedPage, exported_page}
@@ -93,35 +91,18 @@ module _ {A : Type 0} (n : ℕ) (lent : List ℕ) (after before : A) where
   unfolding where_fits
   where_fits_short h = simp (ne_eqb (length lent) n h)
 
--- an offer's status does not depend on the locations
-pub offered_status :
-    (o o' : Result ⊤ Refusal) (sm b t c ls : List ℕ) (w : Left)
-    → record { answer = offered_answer o ls; slot_marks = sm; batch = b; tallies = t; carried = c; placed = ls } ≡ w → o ≡ o'
-    → status_of (outcome_of (offered_answer o' [])) ≡ status_of (outcome_of w.answer)
-offered_status o o' sm b t c ls w e q = any o' ∙ told_status (λ (x : Result ⊤ Refusal). offered_answer x ls) o o' w.answer (ap (λ (x : Left). x.answer) e) q
-  where
-    any : (x : Result ⊤ Refusal) → status_of (outcome_of (offered_answer x [])) ≡ status_of (outcome_of (offered_answer x ls))
-    any (Ok tt) = refl
-    any (Err r) = refl
-
--- nor does that of a snapshot on the file
-pub written_status :
-    (o o' : Result ⊤ Refusal) (file : List ℕ) (w : Written.Left) → record { answer = written_answer o file; file = file } ≡ w → o ≡ o'
-    → status_of (outcome_of (written_answer o' [])) ≡ status_of (outcome_of w.answer)
-written_status o o' file w e q = any o' ∙ told_status (λ (x : Result ⊤ Refusal). written_answer x file) o o' w.answer (ap (λ (x : Written.Left). x.answer) e) q
-  where
-    any : (x : Result ⊤ Refusal) → status_of (outcome_of (written_answer x [])) ≡ status_of (outcome_of (written_answer x file))
-    any (Ok tt) = refl
-    any (Err r) = refl
+-- the status of a call that is done or refused, whatever else it answers
+pub finished_status : (says : Result ⊤ Refusal → Answer) → ((x : Result ⊤ Refusal) → outcome_of (says x) ≡ finished_outcome x)
+    → (x : Result ⊤ Refusal) (a : Answer) → says x ≡ a → status_of (finished_outcome x) ≡ status_of (outcome_of a)
+finished_status says h x a p = ap status_of (sym (h x) ∙ ap outcome_of p)
 
 -- a page's status is that of its outcome
 pub page_exported :
-    (o o' : Result ⊤ Refusal) (numbers locations carried : List ℕ) (l : Page.Left) (s : ℕ)
-    → record { outcome = finished_outcome o; numbers = numbers; locations = locations; carried = carried } ≡ l → o ≡ o' → status_of (finished_outcome o') ≡ s
+    (o : Result ⊤ Refusal) (numbers locations carried : List ℕ) (l : Page.Left) (s : ℕ)
+    → record { outcome = finished_outcome o; numbers = numbers; locations = locations; carried = carried } ≡ l → s ≡ status_of (finished_outcome o)
     → ◌≡◌ {A = ExportedPage} (record { status = s; numbers = numbers; locations = locations; carried = carried }) (exported_page l)
-page_exported o o' numbers locations carried l s e q u =
-    (λ k. record { status = (sym u ∙ sym (ap (λ (x : Result ⊤ Refusal). status_of (finished_outcome x)) q)) k; numbers = numbers; locations = locations; carried = carried })
-    ∙ ap exported_page e
+page_exported o numbers locations carried l s e u =
+    (λ k. record { status = u k; numbers = numbers; locations = locations; carried = carried }) ∙ ap exported_page e
 
 -- an offer changes four tables
 pub offer_memory :

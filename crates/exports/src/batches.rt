@@ -7,7 +7,7 @@ ghost use Rattle.model.specs.Lent.{lent_to, answered, leaves};
 ghost use Rattle.model.specs.Outcomes.{outcome_of, list_in};
 ghost use Rattle.exports_status.specs.Status.{status_of};
 
-use exports_status::status;
+use exports_status::finished;
 use tables::Capacities;
 
 // Takes a slot for each Store of a batch, and keeps what each row is to carry, one row after the other. Of `stores` a byte of 0 is a Free, any other a Store.
@@ -87,7 +87,7 @@ pub fn wentuhoro_offer(
         placed.old }
 {
     let caps = Capacities { ids, slots };
-    match offer::offer(
+    finished(offer::offer(
         caps,
         id_marks,
         locations,
@@ -101,10 +101,7 @@ pub fn wentuhoro_offer(
         lengths,
         update_carried,
         placed,
-    ) {
-        Ok(()) => 0,
-        Err(r) => status(r),
-    }
+    ))
 }
 
 // The open batch takes effect.
@@ -145,12 +142,9 @@ pub fn wentuhoro_commit(
         carried.old) }
 {
     let caps = Capacities { ids, slots };
-    match commit::commit(
+    finished(commit::commit(
         caps, id_marks, locations, slot_marks, owners, batch, tallies, carried,
-    ) {
-        Ok(()) => 0,
-        Err(r) => status(r),
-    }
+    ))
 }
 
 // The open batch is dropped, and the slots that it took are free again.
@@ -175,10 +169,7 @@ pub fn wentuhoro_abandon(
         tallies.old) }
 {
     let caps = Capacities { ids, slots };
-    match abandon::abandon(caps, slot_marks, batch, tallies) {
-        Ok(()) => 0,
-        Err(r) => status(r),
-    }
+    finished(abandon::abandon(caps, slot_marks, batch, tallies))
 }
 
 // Every pending id and slot becomes free.
@@ -207,8 +198,5 @@ pub fn wentuhoro_release(
         tallies.old) }
 {
     let caps = Capacities { ids, slots };
-    match release::release(caps, id_marks, slot_marks, batch, tallies) {
-        Ok(()) => 0,
-        Err(r) => status(r),
-    }
+    finished(release::release(caps, id_marks, slot_marks, batch, tallies))
 }

@@ -1,6 +1,6 @@
 // Classes, checks, frames, cookies, addresses and cutoffs.
 ghost use Rattle.std.specs.Prelude.{◌≡◌};
-ghost use Rattle.refusal.specs.Outcomes.{granted, finished_outcome, judged_outcome};
+ghost use Rattle.refusal.specs.Outcomes.{granted, finished_outcome};
 ghost use Rattle.crc_steps.specs.Crc32.{crc_over, crc32};
 ghost use Rattle.sizes.specs.Sizes.{slabs, slab_sizes, class_of};
 ghost use Rattle.sizes.specs.Outcomes.{class_outcome};
@@ -16,7 +16,7 @@ ghost use Rattle.exports_status.specs.Status.{status_of, or_zeros, Exported, exp
 
 use crate::values;
 use address::SlabAddress;
-use exports_status::{WRONG_LENGTH, status};
+use exports_status::{WRONG_LENGTH, finished, status};
 use frame::Slab;
 use settings::PersistentSettings;
 
@@ -68,10 +68,7 @@ pub fn wentuhoro_frame_write(slot: &mut [u8], object: &[u8]) -> u64
     ensures { (result ≡ status_of (finished_outcome (writing slot.old object.now).answer))
         × (slot.new ≡ (writing slot.old object.now).slot) }
 {
-    match Slab::write(slot, object) {
-        Ok(()) => 0,
-        Err(r) => status(r),
-    }
+    finished(Slab::write(slot, object))
 }
 
 // The length of the object in a slot: the slot's own first bytes. One value.
@@ -96,10 +93,7 @@ pub fn wentuhoro_cookie_write(leaf_fanout: u64, cookie: &mut [u8]) -> u64
     ensures { (result ≡ status_of (finished_outcome (storing leaf_fanout cookie.old).answer))
         × (cookie.new ≡ (storing leaf_fanout cookie.old).cookie) }
 {
-    match PersistentSettings::serialize(leaf_fanout, cookie) {
-        Ok(()) => 0,
-        Err(r) => status(r),
-    }
+    finished(PersistentSettings::serialize(leaf_fanout, cookie))
 }
 
 // The fanout in a settings cookie. One value.
@@ -111,22 +105,19 @@ pub fn wentuhoro_cookie_read(cookie: &[u8], leaf_fanout: &mut [u64]) -> u64
         return WRONG_LENGTH;
     }
     match PersistentSettings::deserialize(cookie) {
-        PersistentSettings::V1 { leaf_fanout: found } => {
-            leaf_fanout[0] = found;
+        Ok(found) => {
+            leaf_fanout[0] = found.leaf_fanout();
             0
         }
-        PersistentSettings::Refused(r) => status(r),
+        Err(r) => status(r),
     }
 }
 
 // Whether a settings cookie was written with this fanout.
 pub fn wentuhoro_cookie_verify(cookie: &[u8], leaf_fanout: u64) -> u64
-    ensures { result ≡ status_of (judged_outcome (agreement leaf_fanout (settings_of cookie.now))) }
+    ensures { result ≡ status_of (finished_outcome (agreement leaf_fanout (settings_of cookie.now))) }
 {
-    match PersistentSettings::verify(cookie, leaf_fanout) {
-        Ok(()) => 0,
-        Err(r) => status(r),
-    }
+    finished(PersistentSettings::verify(cookie, leaf_fanout))
 }
 
 // The packed location of a slot. One value.

@@ -8,7 +8,7 @@ ghost use Rattle.exports_status.specs.Status.{status_of, Exported, exported};
 ghost use Rattle.exports.specs.Answers.{where_fits};
 
 use crate::values;
-use exports_status::{WRONG_LENGTH, status};
+use exports_status::{WRONG_LENGTH, finished, status};
 use tables::Capacities;
 
 // The objects to move, by slab, then slot, in the first rows of two lists of ids - 1 rows. One value: how many rows.
@@ -150,8 +150,5 @@ pub fn wentuhoro_cut_done(
         tallies.old) }
 {
     let caps = Capacities { ids, slots };
-    match truncation::cut_done(caps, slot_marks, batch, tallies, slab, t) {
-        Ok(()) => 0,
-        Err(r) => status(r),
-    }
+    finished(truncation::cut_done(caps, slot_marks, batch, tallies, slab, t))
 }

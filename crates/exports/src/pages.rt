@@ -3,7 +3,7 @@ ghost use Rattle.std.specs.Prelude.{◌≡◌};
 ghost use Rattle.lookup_page.specs.Page.{page, page_leaves};
 ghost use Rattle.exports.specs.Pages.{ExportedPage, exported_page};
 
-use exports_status::status;
+use exports_status::finished;
 use tables::Capacities;
 
 // What a lookup answers of each id, in the order asked: its number, its location and what its row carries.
@@ -32,11 +32,8 @@ pub fn wentuhoro_lookup_page(
         carried.now)) }
 {
     let caps = Capacities { ids, slots };
-    match lookup_page::get_locations_for_objects(
+    finished(lookup_page::get_locations_for_objects(
         caps, id_marks, locations, slot_marks, owners, tallies, carried, asked, numbers, found,
         rows,
-    ) {
-        Ok(()) => 0,
-        Err(r) => status(r),
-    }
+    ))
 }

@@ -3,7 +3,7 @@ ghost use Rattle.std.specs.Prelude.{◌≡◌, length};
 ghost use Rattle.model.specs.Store.{ask, why};
 ghost use Rattle.model.specs.Lent.{answered};
 ghost use Rattle.model.specs.Outcomes.{outcome_of};
-ghost use Rattle.reason.specs.Outcomes.{standing_values};
+ghost use Rattle.reason.specs.Outcomes.{standing_values, reason_says};
 ghost use Rattle.exports_status.specs.Status.{Exported, exported};
 
 use exports_status::{WRONG_LENGTH, status};
@@ -21,6 +21,19 @@ fn put(told: &mut [u64], number: u64, standing: Standing, line: usize)
     told[4] = standing.live as u64;
     told[5] = standing.tip as u64;
     told[6] = line as u64;
+}
+
+// A reason's number and its values; all are 0 where nothing is stored.
+fn put_reason(told: &mut [u64], reason: Reason)
+    requires { length told.old ≡ 7 }
+    ensures { told.new ≡ reason_says reason }
+{
+    match reason {
+        Reason::NotStored => told.fill(0),
+        Reason::FullEnough(standing) => put(told, 1, standing, 0),
+        Reason::BeforeLine(standing, line) => put(told, 2, standing, line),
+        Reason::Listed(standing, line) => put(told, 3, standing, line),
+    }
 }
 
 // Why an object is on the defrag list of a ratio, or is not. Seven values: the reason's number (0 no such stored object, 1 its slab is full enough, 2 its
@@ -56,29 +69,10 @@ pub fn wentuhoro_reason(
     match reason::reason_for_object(
         caps, id_marks, locations, slot_marks, owners, batch, tallies, id, ratio,
     ) {
-        Reason::NotStored => {
-            let nowhere = Standing {
-                slab: 0,
-                slot: 0,
-                smaller: 0,
-                live: 0,
-                tip: 0,
-            };
-            put(told, 0, nowhere, 0);
+        Ok(reason) => {
+            put_reason(told, reason);
             0
         }
-        Reason::FullEnough(standing) => {
-            put(told, 1, standing, 0);
-            0
-        }
-        Reason::BeforeLine(standing, line) => {
-            put(told, 2, standing, line);
-            0
-        }
-        Reason::Listed(standing, line) => {
-            put(told, 3, standing, line);
-            0
-        }
-        Reason::Refused(r) => status(r),
+        Err(r) => status(r),
     }
 }

@@ -12,7 +12,7 @@ ghost use Rattle.exports_status.specs.Status.{status_of, or_zeros, Exported, exp
 ghost use Rattle.exports.specs.Answers.{where_fits};
 
 use crate::values;
-use exports_status::{WRONG_LENGTH, status};
+use exports_status::{WRONG_LENGTH, finished, status};
 use snapshot::Position;
 use tables::Capacities;
 
@@ -79,12 +79,9 @@ pub fn wentuhoro_snapshot_write(
         file.old }
 {
     let caps = Capacities { ids, slots };
-    match snapshot_writer::snapshot_write(
+    finished(snapshot_writer::snapshot_write(
         caps, id_marks, locations, slot_marks, owners, batch, tallies, carried, file,
-    ) {
-        Ok(()) => 0,
-        Err(r) => status(r),
-    }
+    ))
 }
 
 // The row at a position of a snapshot. Eight values: 1, id, collection, location, block and row of the next position, and where in the file the

@@ -6,7 +6,7 @@ ghost use Rattle.model.specs.Lent.{lent_to, answered, leaves};
 ghost use Rattle.model.specs.Outcomes.{outcome_of};
 ghost use Rattle.exports_status.specs.Status.{status_of};
 
-use exports_status::status;
+use exports_status::finished;
 use tables::Capacities;
 
 // A store that holds nothing.
@@ -47,12 +47,9 @@ pub fn wentuhoro_fresh(
         carried.old) }
 {
     let caps = Capacities { ids, slots };
-    match rebuild::fresh(
+    finished(rebuild::fresh(
         caps, id_marks, locations, slot_marks, owners, batch, tallies, carried,
-    ) {
-        Ok(()) => 0,
-        Err(r) => status(r),
-    }
+    ))
 }
 
 // A store that holds the rows' ids and slots, and nothing else.
@@ -101,7 +98,7 @@ pub fn wentuhoro_rebuild(
         carried.old) }
 {
     let caps = Capacities { ids, slots };
-    match rebuild::rebuild(
+    finished(rebuild::rebuild(
         caps,
         id_marks,
         locations,
@@ -113,8 +110,5 @@ pub fn wentuhoro_rebuild(
         row_ids,
         row_locations,
         row_carried,
-    ) {
-        Ok(()) => 0,
-        Err(r) => status(r),
-    }
+    ))
 }

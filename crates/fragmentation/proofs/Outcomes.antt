@@ -4,7 +4,7 @@ use mathlib.Core.Path.{◌≡◌, refl}
 use Prim.Native.Nat.{ℕ}
 use Rattle.refusal.proofs.Outcomes.{outcome_one}
 use Rattle.fragmentation.specs.Outcomes.{cutoff_says, cutoff_outcome}
-use Rattle.std.specs.Prelude.{Result, Ok, Err, Option, Some, None}
+use Rattle.std.specs.Prelude.{Result, Option, Some, None}
 use Rattle.refusal.specs.declared.Refusal.{Refusal}
 
 abbrev cutoff_back : List ℕ → Option ℕ

@@ -1,5 +1,5 @@
 -- The outcome of asking for a slab's cutoff: document 01's number and values. Assumes nothing.
-use Rattle.std.specs.Prelude.{List, [], ◌∷◌, Result, Ok, Err, Option, Some, None, ℕ}
+use Rattle.std.specs.Prelude.{List, [], ◌∷◌, Result, Option, Some, None, ℕ}
 use Rattle.refusal.specs.Outcomes.{Values, outcome_by}
 use Rattle.refusal.specs.declared.Refusal.{Refusal}
 

@@ -3,7 +3,7 @@ use mathlib.Core.Path.{◌≡◌, refl}
 use lib.ListN.{get_or}
 use Rattle.refusal.proofs.Outcomes.{outcome_one}
 use Rattle.frame.specs.Outcomes.{verdict_outcome}
-use Rattle.std.specs.Prelude.{Result, Ok, Err, ℕ}
+use Rattle.std.specs.Prelude.{Result, ℕ}
 use Rattle.refusal.specs.declared.Refusal.{Refusal}
 
 pub verdict_outcome_one : (a b : Result ℕ Refusal) → verdict_outcome a ≡ verdict_outcome b → a ≡ b

@@ -6,7 +6,7 @@ use Rattle.frame.specs.Frame.{writing, verdict_of, object_part}
 
 -- the slot is what a write of the object over some slot gives; of that slot a write looks at the length alone
 abbrev pub IsWritten : List ℕ → List ℕ → Type 0
-IsWritten object slot = (before : List ℕ) × (writing before object ≡ record { answer = (Ok tt); slot = slot })
+IsWritten object slot = (before : List ℕ) × (writing before object ≡ record { answer = Ok tt; slot = slot })
 
 -- with the object named, the slot's own first bytes (accepted_named)
 abbrev pub AcceptedNamed : Type 0

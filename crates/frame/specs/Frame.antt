@@ -25,7 +25,7 @@ unfoldable pub writing : List ℕ → List ℕ → Writing
 writing slot object =
     cond (not (is_slab_size (length slot))) (record { answer = Err (refusal wrong_shape 0); slot = slot })
     (cond (ltb (longest_object (length slot)) (length object)) (record { answer = Err (refusal too_long 0); slot = slot })
-    (record { answer = (Ok tt); slot = framed (length slot) object }))
+    (record { answer = Ok tt; slot = framed (length slot) object }))
 
 -- ---- reading
 -- the number in the length field

@@ -19,10 +19,10 @@ turned_zero zero = refl
 turned_zero (suc m) = rw (eqb-suc-zero m)
 
 -- the part below the hint
-pub released_below : (ms ys : List ℕ) (end : ℕ) → ys ≡ map (released 1) (take (end - 0) (drop 0 ms)) → put_mid 0 (end - 0) ms ys ≡ mapped (released 1) end ms
+pub released_below : (ms ys : List ℕ) (end : ℕ) → ys ≡ map (released 1) (take end ms) → put_mid 0 end ms ys ≡ mapped (released 1) end ms
 released_below ms ys end y =
-    let n : 0 + (end - 0) ≡ end = omega arith in
-    mapped_part (released 1) ms ms 0 (omega arith) refl (end - 0) ys y ∙ ap (λ k. mapped (released 1) k ms) n
+    let n : 0 + end ≡ end = omega arith in
+    mapped_part (released 1) ms ms 0 (omega arith) refl end ys y ∙ ap (λ k. mapped (released 1) k ms) n
 
 module _ (hint end : ℕ) (ms now : List ℕ) (h : end ≡ min hint (length ms)) (e : now ≡ mapped (released 1) end ms) where
   in_range : end ≤ length ms
@@ -37,11 +37,10 @@ module _ (hint end : ℕ) (ms now : List ℕ) (h : end ≡ min hint (length ms))
       let left = mapped_left (released 1) ms now end in_range e in
       take_all (length now - end) (drop end now) (omega (arith, length-drop end now)) ∙ left
 
-  pub released_count : (below above : ℕ) → below ≡ count_if is_pending (take (end - 0) (drop 0 ms)) → above ≡ count_if is_pending (take (length now - end) (drop end now))
+  pub released_count : (below above : ℕ) → below ≡ count_if is_pending (take end ms) → above ≡ count_if is_pending (take (length now - end) (drop end now))
       → below + above ≡ count_if is_pending (hinted hint ms)
   released_count below above b a =
-      let n : end - 0 ≡ end = omega arith in
-      omega (arith, rw n at b, rw rest at a, count_if_split is_pending ms end, hinted_pending hint ms)
+      omega (arith, b, rw rest at a, count_if_split is_pending ms end, hinted_pending hint ms)
 
   pub released_marks : (ys : List ℕ) → ys ≡ map (released 0) (take (length now - end) (drop end now)) → put_mid end (length now - end) now ys ≡ map let_go (hinted hint ms)
   unfolding hinted

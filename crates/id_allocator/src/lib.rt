@@ -9,32 +9,23 @@
 // The marks are lent, a byte for each number. Below the hint a 0 counts as held, so that a search starts there; specs/Counted.antt
 // says how every list of marks counts under every hint. What is said of marks without a hint is in `marks`, `marks_search` and
 // `marks_pending`.
+//
+// Marks and hint stay two parameters: the hint stands in a word of the tallies, so each call would make a struct of both and take it apart.
+// That no number is free is said by the length and no Option: `smallest_free` of the specs, which the laws of the model cite, gives it.
 #![tactic(auto)]
 
-ghost use Rattle.std.specs.Prelude.{◌≡◌, map, min, max, get_or, set};
+ghost use Rattle.std.specs.Prelude.{◌≡◌, map, get_or, set};
 ghost use Rattle.marks.specs.Marks.{is_pending, is_held, is_taken, smallest_free, count_if, last_taken, tip, hold, let_go};
 ghost use Rattle.id_allocator.specs.Counted.{hinted, counted, settle};
 ghost use Rattle.id_allocator.specs.Written.{given_back, hint_back};
 
 use marks::{FREE, HELD, PENDING};
 
-fn smaller(a: usize, b: usize) -> usize
-    ensures { result ≡ min a b }
-{
-    if a < b { a } else { b }
-}
-
-fn larger(a: usize, b: usize) -> usize
-    ensures { result ≡ max a b }
-{
-    if a < b { b } else { a }
-}
-
 // The smallest free number that is at least `from`. Where there is none, the length; where `from` is past it, `from`.
 pub fn smallest_free(marks: &[u8], hint: usize, from: usize) -> usize
     ensures { result ≡ smallest_free from (hinted hint marks.now) }
 {
-    let start = larger(from, smaller(hint, marks.len()));
+    let start = from.max(hint.min(marks.len()));
     marks_search::smallest_free(marks, start)
 }
 
@@ -42,7 +33,7 @@ pub fn smallest_free(marks: &[u8], hint: usize, from: usize) -> usize
 pub fn live(marks: &[u8], hint: usize) -> usize
     ensures { result ≡ count_if is_taken (hinted hint marks.now) }
 {
-    let start = smaller(hint, marks.len());
+    let start = hint.min(marks.len());
     marks.len() - marks::count(&marks[start..], FREE)
 }
 
@@ -50,7 +41,7 @@ pub fn live(marks: &[u8], hint: usize) -> usize
 pub fn last_taken(marks: &[u8], hint: usize) -> usize
     ensures { result ≡ last_taken (hinted hint marks.now) }
 {
-    let below = smaller(hint, marks.len());
+    let below = hint.min(marks.len());
     below + marks_search::last_taken(&marks[below..])
 }
 
@@ -119,9 +110,8 @@ pub fn release(marks: &mut [u8], hint: usize) -> usize
     ensures { (result ≡ count_if is_pending (hinted hint marks.old))
         × (marks.new ≡ map let_go (hinted hint marks.old)) }
 {
-    let begin: usize = 0;
-    let end = smaller(hint, marks.len());
-    let below = marks_pending::release(&mut marks[begin..end], HELD);
+    let end = hint.min(marks.len());
+    let below = marks_pending::release(&mut marks[..end], HELD);
     below + marks_pending::release(&mut marks[end..], FREE)
 }
 
@@ -132,8 +122,8 @@ pub fn give_back(marks: &mut [u8], hint: usize, number: usize) -> usize
     if marks.len() <= number {
         return hint;
     }
-    let end = larger(number, smaller(hint, marks.len()));
+    let end = number.max(hint.min(marks.len()));
     marks::turn(&mut marks[number..end], FREE, HELD);
     marks[number] = FREE;
-    smaller(hint, number)
+    hint.min(number)
 }

@@ -1,15 +1,16 @@
 -- Laws of a list in parts of one length: what a part holds, that a store in one part is seen there and in no other, and that its parts tell a
 -- list. Assumes nothing.
-use mathlib.Core.Path.{◌≡◌, ◌∙◌, ap, sym}
+use mathlib.Core.Path.{◌≡◌, refl, ◌∙◌, ap, sym}
 use mathlib.Core.Logic.{◌≢◌}
 use mathlib.Core.List.{List, ◌++◌, map}
-use Prim.Native.Nat.{ℕ, ◌<◌, suc, ◌≤◌, ◌/◌, ◌%◌, ◌*◌, ◌+◌, ◌-◌}
-use native.Mathlib.Nat.{mul-le-mul_right, suc-mul, div-add-mod', mod-lt, div-lt_iff_lt-mul}
+use Prim.Native.Nat.{ℕ, zero, ◌<◌, suc, ◌≤◌, ◌/◌, ◌%◌, ◌*◌, ◌+◌, ◌-◌}
+use native.Mathlib.Nat.{mul-le-mul_right, zero-mul, suc-mul, div-add-mod', mod-lt, div-lt_iff_lt-mul}
 use native.Mathlib.Decide.{dec_lt}
 use native.Mathlib.Omega.{arith}
 use lib.ListN.{get_or, length, set, take, drop, length-take, length-drop, length-append, get_or-append}
-use lib.Seq.{get_or-take, get_or-drop, drop-set-add, take-set-lt, drop-set-lt, take-set-le, length-take-le, drop_at, take_at, get_or-append-add}
+use lib.Seq.{drop-drop, get_or-take, get_or-drop, drop-set-add, take-set-lt, drop-set-lt, take-set-le, length-take-le, drop_at, take_at, get_or-append-add}
 use borrow.Rule.Slice.PartMut.{put_mid}
+use Rattle.std.specs.Simd.{first_chunks}
 use Rattle.list_parts.specs.Parts.{part, put_part}
 use Rattle.list_parts.proofs.Lists.{take_map, drop_map, ext_places}
 
@@ -106,3 +107,17 @@ module _ {A : Type 0} (stride : ℕ) (t : List A) (k : ℕ) (p : List A) (inside
           let b = mul-le-mul_right stride m in
           let e : k * stride + (stride + (i * stride + j - (k * stride + stride))) ≡ i * stride + j = omega arith in
           rw e at (get_d_high d (i * stride + j - (k * stride + stride)))
+
+-- ---- std's chunks
+module _ {A : Type 0} (stride : ℕ) where
+  pub length_chunks : (n : ℕ) (t : List A) → length (first_chunks stride n t) ≡ n
+  length_chunks zero t = refl
+  length_chunks (suc n) t = ap suc (length_chunks n (drop stride t))
+
+  pub chunk_at : (n k : ℕ) (t : List A) (d : List A) → k < n → get_or (first_chunks stride n t) k d ≡ part stride t k
+  chunk_at zero k t d h = absurd (omega arith)
+  chunk_at (suc n) zero t d h = rw (zero-mul stride)
+  chunk_at (suc n) (suc k) t d h =
+      let e : k * stride + stride ≡ suc k * stride = omega (arith, suc-mul k stride) in
+      let f : stride + k * stride ≡ k * stride + stride = omega arith in
+      chunk_at n k (drop stride t) d (omega arith) ∙ ap (take stride) (drop-drop (k * stride) stride t ∙ ap (λ (m : ℕ). drop m t) (f ∙ e))

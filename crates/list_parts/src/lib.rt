@@ -8,11 +8,7 @@ pub fn copy(from: &[u8], to: &mut [u8]) -> usize
     ensures count { result ≡ min (length from.now) (length to.old) }
     ensures copied { to.new ≡ take result from.now ++ drop result to.old }
 {
-    let n = if from.len() <= to.len() {
-        from.len()
-    } else {
-        to.len()
-    };
+    let n = from.len().min(to.len());
     to[..n].copy_from_slice(&from[..n]);
     n
 }

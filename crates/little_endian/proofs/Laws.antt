@@ -1,15 +1,25 @@
 -- Laws of `word` and `bytes_of`: each width at once. Assumes nothing.
 use mathlib.Core.Path.{◌≡◌, refl, sym, ap, ◌∙◌}
 use mathlib.Core.List.{List, [], ◌∷◌, ◌++◌, append-nil, append_assoc}
-use Prim.Native.Nat.{ℕ, zero, suc, ◌+◌, ◌-◌, ◌*◌, ◌/◌, ◌%◌, ◌^◌, ◌≤◌, ◌<◌, min}
+use Prim.Native.Nat.{ℕ, zero, suc, ◌+◌, ◌-◌, ◌*◌, ◌/◌, ◌%◌, ◌^◌, ◌≤◌, ◌<◌}
 use native.Mathlib.Numerals.{add-one}
 use native.Mathlib.Nat.{zero-mul, mul_assoc, pow-suc, pow-le-pow_right, lt_of_lt_of_le}
 use native.Mathlib.Omega.{arith}
-use lib.ListN.{length, get_or, take, drop, set, replicate, length-take, length-drop, length-append, drop_of_length-le}
-use lib.Seq.{drop-cons, take-suc-set, append_snoc, take_all, get_or-take, get_or-drop, take_at, drop_at, drop-drop, take-append_seam, drop-append_seam}
+use lib.ListN.{length, get_or, take, drop, set, replicate, length-take, length-append}
+use lib.Seq.{drop-cons, take-suc-set, append_snoc, take_all, get_or-drop, take_at, drop_at, drop-drop, take-append_seam, drop-append_seam}
 use lib.Dec.{lit<}
 use mathlib.Core.Bool.{true}
-use borrow.Author.Tests.{le-leb}
+use borrow.Author.Tests.{le-leb, lt-leb}
+use mathlib.Core.Bool.{cond, and-false}
+use mathlib.Core.Logic.{◌⊎◌, inl, inr}
+use lib.Dec.{leb}
+use Rattle.std.specs.Int.{sum_through, byte_worth}
+use Rattle.std.specs.List.{fold}
+use Rattle.std.specs.Prelude.{reverse}
+use lib.Bits.{bit_or}
+use Rattle.std.proofs.lemmas.List.{reverse-append}
+use Rattle.std.proofs.lemmas.List.Sums.{fold-append}
+use Rattle.std.proofs.lemmas.Nat.{or_shifted}
 use Rattle.little_endian.specs.LittleEndian.{Bytes, word, bytes_of, is_part, get_at, put_at}
 
 pub tail_bytes : (b : ℕ) (bs : List ℕ) → Bytes (b ∷ bs) → Bytes bs
@@ -39,12 +49,6 @@ pub word_cons : (l : List ℕ) (i : ℕ) → i < length l → word (drop i l) �
 unfolding word
 word_cons l i h = rw (drop-cons l i 0, add-one)
 
-pub word_at : (l : List ℕ) (i j : ℕ) → i ≡ j → word (drop i l) ≡ word (drop j l)
-word_at l i j e = ap (λ (k : ℕ). word (drop k l)) e
-
-pub word_two : (l : List ℕ) (i : ℕ) → i + 2 ≤ length l → word (drop i l) ≡ word (drop (i + 2) l) * 2 ^ 16 + (get_or l i 0 + get_or l (i + 1) 0 * 256)
-word_two l i h = omega (arith, word_cons l i (omega arith), word_cons l (i + 1) (omega arith), word_at l ((i + 1) + 1) (i + 2) (omega arith))
-
 -- the first k bytes are the lower part
 pub word_split : (k : ℕ) (l : List ℕ) → word l ≡ word (drop k l) * 256 ^ k + word (take k l)
 unfolding word
@@ -53,15 +57,6 @@ word_split (suc k) [] = omega arith
 word_split (suc k) (b ∷ bs) =
     let e : 256 ^ suc k ≡ 256 ^ k * 256 = pow-suc 256 k in
     rw (e, ← mul_assoc (word (drop k bs)) (256 ^ k) 256) (omega (arith, word_split k bs))
-
--- so many bytes and no more
-pub word_whole : (l : List ℕ) (k p r : ℕ) → length l ≡ k → k ≤ 8 → word (drop 0 l) ≡ word (drop (0 + k) l) * p + r → r ≡ word (take 8 l)
-unfolding word
-word_whole l k p r n h e =
-    let f : length l ≤ 0 + k = omega arith in
-    let g : length l ≤ 8 = omega arith in
-    let z : word (drop (0 + k) l) * p ≡ 0 = ap (λ (x : List ℕ). word x * p) (drop_of_length-le l f) ∙ zero-mul p in
-    rw (take_all 8 l g) (omega (arith, e, z))
 
 pub word_lt : (l : List ℕ) → Bytes l → word l < 256 ^ length l
 unfolding word
@@ -121,25 +116,49 @@ bytes_of_done l i rest h =
     let e : length l - i ≡ zero = omega arith in
     rw (e, take_all i l h) (append-nil l)
 
--- ---- the number in the first eight bytes, read from the highest down
-pub eight_end : (l : List ℕ) → length l < 8 → 0 ≡ word (drop (length l) (take 8 l))
+-- ---- as std reads numbers
+word_more : (k : ℕ) (l : List ℕ) → word (take (suc k) l) ≡ word (take k l) + get_or l k 0 * 256 ^ k
 unfolding word
-eight_end l h =
-    let n : length (take 8 l) ≤ length l = rw (length-take 8 l) (omega arith) in
-    rw (drop_of_length-le (take 8 l) n)
+word_more zero [] = omega arith
+word_more zero (b ∷ bs) = omega arith
+word_more (suc k) [] = rw (zero-mul (256 ^ suc k))
+word_more (suc k) (b ∷ bs) =
+    rw (pow-suc 256 k, ← mul_assoc (get_or bs k 0) (256 ^ k) 256) (omega (arith, word_more k bs))
 
-pub eight_turn : (l : List ℕ) (i : ℕ) → 0 < i → i ≤ min 8 (length l)
-    → word (drop i (take 8 l)) * 256 + get_or l (i - 1) 0 ≡ word (drop (i - 1) (take 8 l))
-eight_turn l i p h =
-    let lt : i - 1 < length (take 8 l) = rw (length-take 8 l) (omega arith) in
-    let e : i - 1 + 1 ≡ i = omega arith in
-    let w : word (drop (i - 1) (take 8 l)) ≡ word (drop i (take 8 l)) * 256 + get_or (take 8 l) (i - 1) 0 = rw e at (word_cons (take 8 l) (i - 1) lt) in
-    rw (← get_or-take 8 l (i - 1) 0 (omega arith)) (sym w)
+pub word_worth : (k : ℕ) (l : List ℕ) → sum_through (λ i. byte_worth i (get_or l i 0)) k ≡ word (take (suc k) l)
+unfolding word
+word_worth zero l = sym (omega (arith, word_more 0 l))
+word_worth (suc k) l = ap (λ n. n + get_or l (suc k) 0 * 256 ^ suc k) (word_worth k l) ∙ sym (word_more (suc k) l)
 
--- what is read before the last byte leaves room for it
-pub eight_room : (l : List ℕ) (i : ℕ) → 0 < i → Bytes l → word (drop i (take 8 l)) < 256 ^ 7
-eight_room l i p h =
-    word_fits 7 (drop i (take 8 l)) (drop_bytes i (take 8 l) (take_bytes 8 l h)) (simp (length-drop, length-take) (omega arith))
+-- n bytes and no more
+pub word_whole : (k : ℕ) (l : List ℕ) (r : ℕ) → length l ≡ suc k → suc k ≤ 8 → r ≡ sum_through (λ i. byte_worth i (get_or l i 0)) k → r ≡ word (take 8 l)
+word_whole k l r n h e = e ∙ word_worth k l ∙ ap word (take_all (suc k) l (omega arith) ∙ sym (take_all 8 l (omega arith)))
+
+-- the first eight
+pub word_first : (l first : List ℕ) (r : ℕ) → first ≡ take 8 l → r ≡ sum_through (λ i. byte_worth i (get_or first i 0)) 7 → r ≡ word (take 8 l)
+word_first l first r f e = e ∙ word_worth 7 first ∙ ap word (take_all 8 first (rw (f, length-take 8 l) (omega arith)) ∙ f)
+
+-- one byte after the other, from the highest down
+abbrev pub gather_byte : ℕ → ℕ → ℕ
+gather_byte number byte = bit_or (number * 2 ^ 8 % 2 ^ 64) byte
+
+gathered_byte : (number byte : ℕ) → number < 256 ^ 7 → byte < 2 ^ 8 → gather_byte number byte ≡ number * 2 ^ 8 + byte
+gathered_byte number byte h b =
+    let e : number * 2 ^ 8 % 2 ^ 64 ≡ number * 2 ^ 8 = omega arith in
+    rw e (or_shifted number 8 byte b)
+
+gathered : (l : List ℕ) → Bytes l → length l ≤ 7 → fold gather_byte 0 (reverse l) ≡ word l
+unfolding word
+gathered [] h n = refl
+gathered (b ∷ bs) h n =
+    let t = tail_bytes b bs h in
+    ap (fold gather_byte 0) (reverse-append (b ∷ []) bs)
+    ∙ fold-append gather_byte 0 (reverse bs) (b ∷ [])
+    ∙ ap (λ (x : ℕ). gather_byte x b) (gathered bs t (omega arith))
+    ∙ gathered_byte (word bs) b (word_fits 7 bs t (omega arith)) (h 0)
+
+pub word_gathered : (l : List ℕ) (r : ℕ) → Bytes l → length l < 8 → r ≡ fold gather_byte 0 (reverse l) → r ≡ word (take 8 l)
+word_gathered l r h n e = e ∙ gathered l h (omega arith) ∙ ap word (sym (take_all 8 l (omega arith)))
 
 -- ---- a part in the middle: p, then m, then q
 module _ (p m q : List ℕ) (start end : ℕ) (hp : length p ≡ start) (hm : start + length m ≡ end) where
@@ -167,6 +186,17 @@ module _ (p m q : List ℕ) (start end : ℕ) (hp : length p ≡ start) (hm : st
   get_at_middle h =
       let w : end - start ≡ length m = omega arith in
       rw (middle_is, drop_at p (m ++ q) start hp, w, take-append_seam m q, take_all 8 m h)
+
+-- ---- a part that there is, or not
+pub get_at_part : (start end : ℕ) (l part : List ℕ) (r : ℕ) → start ≤ end → end ≤ length l → part ≡ take (end - start) (drop start l)
+    → r ≡ word (take 8 part) → r ≡ get_at start end l
+unfolding get_at
+get_at_part start end l part r h g p e = e ∙ rw (le-leb start end h, le-leb end (length l) g, p)
+
+pub get_at_none : (start end : ℕ) (l : List ℕ) → (end < start) ⊎ (length l < end) → 0 ≡ get_at start end l
+unfolding get_at
+get_at_none start end l (inl h) = rw (lt-leb start end h)
+get_at_none start end l (inr h) = rw (lt-leb end (length l) h) (sym (ap (λ b. cond b (word (take 8 (take (end - start) (drop start l)))) 0) (and-false (leb start end))))
 
 -- a number of no bytes set is zeros
 pub bytes_of_zero : (width : ℕ) → bytes_of width 0 ≡ replicate width 0

@@ -12,77 +12,44 @@ ghost use Rattle.little_endian.specs.LittleEndian.{word, bytes_of, get_at, put_a
 // As many bytes as make a u64.
 const WIDEST: usize = 8;
 
-fn wide(byte: u8) -> u64
-    ensures { (result ≡ byte) × (result < 256) }
-{
-    byte as u64
-}
-
-// Two bytes from `at` on, four, and the first eight. LLVM makes one load of each.
-fn pair(bytes: &[u8], at: usize) -> u64
-    requires { at + 2 ≤ length bytes.now }
-    ensures { (result < 2 ^ 16) × (word (drop at bytes.now) ≡ word (drop (at + 2) bytes.now) * 2 ^ 16 + result) }
-{
-    wide(bytes[at]) + wide(bytes[at + 1]) * 256
-}
-
-fn four(bytes: &[u8], at: usize) -> u64
-    requires { at + 4 ≤ length bytes.now }
-    ensures { (result < 2 ^ 32) × (word (drop at bytes.now) ≡ word (drop (at + 4) bytes.now) * 2 ^ 32 + result) }
-{
-    pair(bytes, at) + pair(bytes, at + 2) * 65536
-}
-
-fn eight(bytes: &[u8]) -> u64
-    requires { 8 ≤ length bytes.now }
-    ensures { result ≡ word (take 8 bytes.now) }
-{
-    four(bytes, 0) + four(bytes, 4) * 4294967296
-}
-
-// The number in fewer bytes, one after the other.
+// The number in fewer bytes, from the highest down. A copy over zeros takes a third longer, since LLVM calls `memcpy` for it.
 fn gather(bytes: &[u8]) -> u64
     requires { length bytes.now < 8 }
     ensures { result ≡ word (take 8 bytes.now) }
 {
-    let mut left = bytes.len();
-    let mut number = 0u64;
-    while 0 < left {
-        left -= 1;
-        number = number * 256 + wide(bytes[left]);
-    }
-    number
+    bytes
+        .iter()
+        .rev()
+        .fold(0, |number, byte| (number << 8) | u64::from(*byte))
 }
 
-// The number in `bytes`; where there are more than eight, in the first eight.
+// The number in `bytes`; where there are more than eight, in the first eight. LLVM makes one load of each width that has a branch.
 pub fn get(bytes: &[u8]) -> u64
     ensures { result ≡ word (take 8 bytes.now) }
 {
-    if WIDEST <= bytes.len() {
-        return eight(bytes);
+    if let Some(eight) = bytes.first_chunk::<WIDEST>() {
+        return u64::from_le_bytes(*eight);
     }
-    if bytes.len() == 4 {
-        return four(bytes, 0);
+    if let Some(four) = bytes.as_array::<4>() {
+        return u64::from(u32::from_le_bytes(*four));
     }
-    if bytes.len() == 2 {
-        return pair(bytes, 0);
+    if let Some(two) = bytes.as_array::<2>() {
+        return u64::from(u16::from_le_bytes(*two));
     }
-    if bytes.len() == 1 {
-        return wide(bytes[0]);
+    if let [one] = bytes {
+        return u64::from(*one);
     }
     gather(bytes)
 }
 
-// Writes the lowest bytes of `number` over all of `bytes`.
+// Writes the lowest bytes of `number` over all of `bytes`. Byte by byte: `to_le_bytes` has eight, and here are fewer or more.
 pub fn put(bytes: &mut [u8], number: u64)
     ensures { bytes.new ≡ bytes_of (length bytes.old) number }
 {
     let mut rest = number;
-    let mut i = 0;
-    while i < bytes.len() {
-        bytes[i] = (rest % 256) as u8;
-        rest = rest / 256;
-        i += 1;
+    for byte in bytes.iter_mut() {
+        *byte = (rest % 256) as u8;
+        rest /= 256;
     }
 }
 
@@ -90,10 +57,9 @@ pub fn put(bytes: &mut [u8], number: u64)
 pub fn get_at(bytes: &[u8], start: usize, end: usize) -> u64
     ensures { result ≡ get_at start end bytes.now }
 {
-    if start <= end && end <= bytes.len() {
-        get(&bytes[start..end])
-    } else {
-        0
+    match bytes.get(start..end) {
+        Some(part) => get(part),
+        None => 0,
     }
 }
 
@@ -101,6 +67,7 @@ pub fn get_at(bytes: &[u8], start: usize, end: usize) -> u64
 pub fn put_at(bytes: &mut [u8], start: usize, end: usize, number: u64)
     ensures { bytes.new ≡ put_at start end number bytes.old }
 {
+    // By a test, since of what `get_mut` lends a proof knows nothing afterwards.
     if start <= end && end <= bytes.len() {
         put(&mut bytes[start..end], number);
     }

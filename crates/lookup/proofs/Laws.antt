@@ -1,12 +1,12 @@
 -- A lookup in what the code reads: its lengths, then one id, one location and one row. Assumes nothing.
-use mathlib.Core.Bool.{true, false, not, cond, ◌&&◌, ◌||◌}
+use mathlib.Core.Bool.{Bool, true, false, not, cond, ◌&&◌, ◌||◌}
 use mathlib.Core.List.{List, [], ◌++◌, append-nil}
 use mathlib.Core.Path.{◌≡◌, refl, sym, ap, ◌∙◌}
-use Prim.Native.Nat.{ℕ, ◌+◌, ◌*◌, ◌≤◌, ◌<◌}
+use Prim.Native.Nat.{ℕ, ◌+◌, ◌-◌, ◌*◌, ◌≤◌, ◌<◌}
 use native.Mathlib.Nat.{zero-mul}
 use native.Mathlib.Omega.{arith}
 use lib.Dec.{eqb, ltb}
-use lib.ListN.{length, get_or, drop}
+use lib.ListN.{length, get_or, take, drop}
 use lib.Seq.{drop-length}
 use borrow.Author.Tests.{not-false, eqb-true, ltb-true, ne_eqb}
 use Rattle.refusal.specs.declared.Kind.{Kind}
@@ -15,15 +15,17 @@ use Rattle.refusal.specs.Refusals.{refusal, wrong_shape, no_such_id, tables_disa
 use Rattle.refusal.specs.declared.Refusal.{Refusal}
 use Rattle.refusal.proofs.Tests.{and_true, or_false, by_test}
 use Rattle.list_parts.specs.Parts.{part}
-use Rattle.list_parts.proofs.Parts.{part_end, length_part_full}
-use Rattle.address.specs.Address.{unpacked}
+use Rattle.list_parts.proofs.Parts.{part_end, part_range, length_part_full}
+use Rattle.address.specs.Address.{bad_slots, slabs, unpacked}
 use Rattle.address.specs.declared.SlabAddress.{SlabAddress}
-use Rattle.address.proofs.Laws.{unpacked_at}
+use Rattle.address.proofs.Laws.{slots_range, unpacked_at}
+use Rattle.marks.specs.Marks.{is_held}
+use Rattle.id_allocator.specs.Counted.{counted}
 use Rattle.carried.specs.Carried.{width, row_in, put_row}
 use Rattle.carried.proofs.Laws.{row_in_part, put_row_done}
 use Rattle.model.specs.Lending.{row_tables}
 use Rattle.model.specs.Lent.{fits}
-use Rattle.model.specs.Memory.{Memory, read}
+use Rattle.model.specs.Memory.{Memory, get_word, hint_words, waiting_words, counted_by, read}
 use Rattle.model.specs.Outcomes.{over, list_in}
 use Rattle.model.specs.Questions.{unfound, ask_refusal, reply}
 use Rattle.model.specs.Step as S
@@ -34,8 +36,8 @@ use Rattle.model.specs.Tests.{lists}
 use Rattle.model.specs.Verdict.{Verdict, ok, refuse, test, ◌⨾◌}
 use Rattle.model.proofs.Sizes.{shape_read, fits_range, fits_slot_marks, fits_carried}
 use Rattle.model.proofs.Verdicts.{test_ok, first_ok, tests_join}
-use Rattle.tables.specs.Entries.{held_in, owns_in}
-use Rattle.tables.proofs.LawsEntries.{held_in_read, bad_in_none, bad_in_at, bad_in_read}
+use Rattle.tables.specs.Entries.{held_in, slab_part, owns_in}
+use Rattle.tables.proofs.LawsEntries.{slab_part_is, held_in_read, bad_in_none, bad_in_at, bad_in_read}
 use Rattle.lookup.specs.Lookup.{looked_answer, located_as, looked_in}
 use Rattle.std.specs.Prelude.{Result, Ok, Err, Option, Some}
 
@@ -48,13 +50,36 @@ held_in_lt ids marks words i e =
 
 located_as_location : (v : Verdict) (p l : ℕ) → located_as v p ≡ Ok l → (v ≡ ok) × (l ≡ p)
 located_as_location ok p l e = let q : p ≡ l = cc in (refl, sym q)
-located_as_location (refuse k i) p l e = let z : ◌≡◌ {A = ℕ} 0 1 = cc in absurd (omega arith)
+located_as_location (refuse k i) p l e = (cc, cc)
 
-located_as_refused : (v : Verdict) (p : ℕ) (r : Refusal) → located_as v p ≡ Err r → v ≡ refuse r.number r.index
-located_as_refused ok p r e = let z : ◌≡◌ {A = ℕ} 0 1 = cc in absurd (omega arith)
+located_as_refused : (v : Verdict) (p : ℕ) (r : Refusal) → located_as v p ≡ Err r → v ≡ refuse r.kind r.index
+located_as_refused ok p r e = cc
 located_as_refused (refuse k i) p r e =
     let q : refusal k i ≡ r = cc in
-    ap (λ (x : Refusal). refuse x.number x.index) q
+    ap (λ (x : Refusal). refuse x.kind x.index) q
+
+-- ---- the slot of an address
+
+pub slab_within : (slab slots : ℕ) → slab < slabs → bad_slots slots ≡ false → (slab * slots + slots ≤ slabs * slots) × (slabs * slots ≤ slabs * 65536)
+slab_within slab slots h e = (part_end slots slabs slab h, omega (arith, (slots_range slots e).1))
+
+module _ (slots : ℕ) (marks owners words : List ℕ) (i : ℕ) (a : SlabAddress) (h : a.slab < slabs) (c : bad_slots slots ≡ false) where
+  abbrev Held : Bool
+  Held = is_held (get_or (counted_by words (a.slab + 1) (slab_part slots marks a.slab)) a.slot 0)
+
+  -- the marks of its slab, by their hint and waiting word
+  module _ (held : Bool) (hint waiting : ℕ) (eh : hint ≡ get_word words hint_words (a.slab + 1)) (ew : waiting ≡ get_word words waiting_words (a.slab + 1))
+      (e : held ≡ is_held (get_or (counted hint waiting (take (a.slab * slots + slots - a.slab * slots) (drop (a.slab * slots) marks))) a.slot 0)) where
+    held_is : held ≡ Held
+    held_is =
+        e ∙ (λ k. is_held (get_or (counted (eh k) (ew k) (part_range slots marks a.slab k)) a.slot 0))
+        ∙ ap (λ (t : List ℕ). is_held (get_or (counted_by words (a.slab + 1) t) a.slot 0)) (sym (slab_part_is slots a.slab marks h c))
+
+    pub owns_free : held ≡ false → false ≡ owns_in slots marks owners words i a
+    owns_free f = ap (λ b. b && eqb (get_or owners (a.slab * slots + a.slot) 0) i) (sym (sym held_is ∙ f))
+
+    pub owns_held : held ≡ true → eqb (get_or owners (a.slab * slots + a.slot) 0) i ≡ owns_in slots marks owners words i a
+    owns_held f = ap (λ b. b && eqb (get_or owners (a.slab * slots + a.slot) 0) i) (sym (sym held_is ∙ f))
 
 -- ---- one id, by what its location unpacks to
 module _ (ids slots : ℕ) (id_marks locations slot_marks owners words : List ℕ) (i : ℕ) where
@@ -166,7 +191,7 @@ module _ (m : Memory) (i : ℕ) (row : List ℕ) where
 
   module _ (f : Fits) (looked : Result ℕ Refusal) (e : looked ≡ located_as Said (get_or m.locations i 0)) where
     pub answers_refused : (r : Refusal) → looked ≡ Err r → Answers (Err r) row
-    answers_refused r q = refused_leaves r.number r.index (lookup_rest f ∙ located_as_refused Said _ r (sym e ∙ q))
+    answers_refused r q = refused_leaves r.kind r.index (lookup_rest f ∙ located_as_refused Said _ r (sym e ∙ q))
 
     granted_answer : Said ≡ ok → answer (read m) asked ≡ granted (found (get_or m.locations i 0) (part width m.carried i))
     unfolding answer grant reply read

@@ -12,7 +12,7 @@ use Rattle.std.specs.Prelude.{Result, Ok, Err}
 use Rattle.refusal.specs.declared.Refusal.{Refusal}
 
 pub looked_outcome_one : (a b : Result ℕ Refusal) → looked_outcome a ≡ looked_outcome b → a ≡ b
-looked_outcome_one = outcome_one _ (λ vs. (get_or vs 0 0)) (λ _. refl)
+looked_outcome_one = outcome_one _ (λ vs. get_or vs 0 0) (λ _. refl)
 
 pub looked_answer_outcome : (a : Result ℕ Refusal) (row : List ℕ) → outcome_of (looked_answer a row) ≡ looked_outcome a
 looked_answer_outcome (Ok location) row = refl

@@ -15,7 +15,7 @@ looked_answer (Err r) row = refused_as r
 -- a location where nothing is refused
 abbrev pub located_as : Verdict → ℕ → Result ℕ Refusal
 located_as ok location = Ok location
-located_as (refuse number index) location = Err (refusal number index)
+located_as (refuse kind index) location = Err (refusal kind index)
 
 unfoldable pub looked_in : ℕ → ℕ → List ℕ → List ℕ → List ℕ → List ℕ → List ℕ → ℕ → Verdict
 looked_in ids slots id_marks locations slot_marks owners words i =

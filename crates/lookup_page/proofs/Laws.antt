@@ -2,34 +2,28 @@
 use mathlib.Core.Bool.{Bool, true, false, not, ◌&&◌}
 use mathlib.Core.List.{List, [], ◌∷◌, ◌++◌, map, append-nil, append_assoc}
 use mathlib.Core.Path.{◌≡◌, refl, sym, ap, ◌∙◌}
-use Prim.Native.Nat.{ℕ, suc, ◌+◌, ◌-◌, ◌*◌, ◌≤◌, ◌<◌}
+use Prim.Native.Nat.{ℕ, suc, ◌+◌, ◌*◌, ◌≤◌, ◌<◌}
 use native.Mathlib.Nat.{zero-add, suc-mul, zero-mul}
 use native.Mathlib.Numerals.{add-one}
 use native.Mathlib.Omega.{arith}
-use lib.Dec.{eqb, ltb}
-use lib.ListN.{length, get_or, set, take, drop, length-append, length-map, drop_of_length-le, replicate, length-replicate}
+use lib.Dec.{ltb}
+use lib.ListN.{length, get_or, set, take, drop, length-append, length-map, drop_of_length-le, length-replicate}
 use lib.Seq.{sets, sets-eq, drop-cons, take_all, take_at, length-take-le}
 use borrow.Author.Tests.{eqb-true, lt-ltb, le-ltb}
 use Rattle.refusal.specs.Outcomes.{granted, refused}
+use Rattle.refusal.specs.declared.Kind.{Kind}
 use Rattle.refusal.specs.Refusals.{wrong_shape, too_many}
 use Rattle.refusal.specs.declared.Refusal.{Refusal}
 use Rattle.refusal.proofs.Tests.{and_true}
 use Rattle.list_parts.specs.Parts.{part}
-use Rattle.list_parts.proofs.Parts.{part_end, part_range, length_part_full}
-use Rattle.address.specs.Address.{bad_slots, slabs}
-use Rattle.address.specs.declared.SlabAddress.{SlabAddress}
-use Rattle.address.proofs.Laws.{slots_range}
-use Rattle.marks.specs.Marks.{is_held}
-use Rattle.id_allocator.specs.Counted.{counted}
-use Rattle.tables.specs.Entries.{slab_part, owns_in}
-use Rattle.tables.proofs.LawsEntries.{slab_part_is}
+use Rattle.list_parts.proofs.Parts.{part_end, length_part_full}
 use Rattle.carried.specs.Carried.{width, row_in, put_row}
 use Rattle.carried.proofs.Laws.{row_in_part, put_row_done, length_put_row}
 use Rattle.lookup.specs.Lookup.{located_as, looked_in}
 use Rattle.lookup.proofs.Laws.{looked_at, unfound_read, found_within, over_whole}
 use Rattle.model.specs.Lending.{row_tables}
 use Rattle.model.specs.Lent.{fits}
-use Rattle.model.specs.Memory.{Memory, get_word, hint_words, waiting_words, counted_by, read}
+use Rattle.model.specs.Memory.{Memory, read}
 use Rattle.model.specs.Columns.{carries_for}
 use Rattle.model.specs.Outcomes.{over, told_carried}
 use Rattle.model.specs.Questions.{most_asked, told_by, told_of, ask_refusal, reply}
@@ -42,41 +36,9 @@ use Rattle.model.proofs.Sizes.{shape_read}
 use Rattle.model.proofs.Verdicts.{tests_join}
 use Rattle.lookup_page.specs.Page.{Left, left_by}
 use Rattle.lookup_page.specs.Rows.{told_as, told_in, put_number, put_location, put_carried, written}
-use Rattle.std.specs.Prelude.{Result, Ok, Err}
-
--- ---- the slot of an address
-
-pub slab_within : (slab slots : ℕ) → slab < slabs → bad_slots slots ≡ false → (slab * slots + slots ≤ slabs * slots) × (slabs * slots ≤ slabs * 65536)
-slab_within slab slots h e = (part_end slots slabs slab h, omega (arith, (slots_range slots e).1))
-
-module _ (slots : ℕ) (marks owners words : List ℕ) (i : ℕ) (a : SlabAddress) (h : a.slab < slabs) (c : bad_slots slots ≡ false) where
-  abbrev Held : Bool
-  Held = is_held (get_or (counted_by words (a.slab + 1) (slab_part slots marks a.slab)) a.slot 0)
-
-  -- the marks of its slab, by their hint and waiting word
-  module _ (held : Bool) (hint waiting : ℕ) (eh : hint ≡ get_word words hint_words (a.slab + 1)) (ew : waiting ≡ get_word words waiting_words (a.slab + 1))
-      (e : held ≡ is_held (get_or (counted hint waiting (take (a.slab * slots + slots - a.slab * slots) (drop (a.slab * slots) marks))) a.slot 0)) where
-    held_is : held ≡ Held
-    held_is =
-        e ∙ (λ k. is_held (get_or (counted (eh k) (ew k) (part_range slots marks a.slab k)) a.slot 0))
-        ∙ ap (λ (t : List ℕ). is_held (get_or (counted_by words (a.slab + 1) t) a.slot 0)) (sym (slab_part_is slots a.slab marks h c))
-
-    pub owns_free : held ≡ false → false ≡ owns_in slots marks owners words i a
-    owns_free f = ap (λ b. b && eqb (get_or owners (a.slab * slots + a.slot) 0) i) (sym (sym held_is ∙ f))
-
-    pub owns_held : held ≡ true → eqb (get_or owners (a.slab * slots + a.slot) 0) i ≡ owns_in slots marks owners words i a
-    owns_held f = ap (λ b. b && eqb (get_or owners (a.slab * slots + a.slot) 0) i) (sym (sym held_is ∙ f))
+use Rattle.std.specs.Prelude.{Result}
 
 -- ---- one row
-
-module _ (looked : Result ℕ Refusal) (row : List ℕ) (p : ℕ) (numbers found rows after : List ℕ) where
-  pub told_found : (location : ℕ) → looked ≡ Ok location → after ≡ put_row width rows p row
-      → (set numbers p 0 ≡ put_number numbers p (told_as looked row)) × (set found p location ≡ put_location found p (told_as looked row)) × (after ≡ put_carried rows p (told_as looked row))
-  told_found location q e = rw q (refl, refl, e)
-
-  pub told_refused : (r : Refusal) → looked ≡ Err r → after ≡ put_row width rows p (replicate width 0)
-      → (set numbers p r.number ≡ put_number numbers p (told_as looked row)) × (set found p 0 ≡ put_location found p (told_as looked row)) × (after ≡ put_carried rows p (told_as looked row))
-  told_refused r q e = rw q (refl, refl, e)
 
 -- what the code reads of one id
 pub told_row : (ids slots : ℕ) (id_marks locations slot_marks owners words carried : List ℕ) (i : ℕ) (looked : Result ℕ Refusal) (row : List ℕ)
@@ -202,10 +164,10 @@ module _ (m : Memory) (p : Page) where
   abbrev Leaves : Left → Type 0
   Leaves l = l ≡ left_by p (answer (read m) asked)
 
-  abbrev refusing : ℕ → Left
+  abbrev refusing : Kind → Left
   refusing n = record { outcome = refused n 0; numbers = p.numbers; locations = p.locations; carried = p.carried }
 
-  refused_leaves : (n : ℕ) → S.refusal (read m) asked ≡ refuse n 0 → Leaves (refusing n)
+  refused_leaves : (n : Kind) → S.refusal (read m) asked ≡ refuse n 0 → Leaves (refusing n)
   unfolding answer
   refused_leaves n e = ap (λ v. left_by p (answer_by v (grant (read m) asked))) (sym e)
 

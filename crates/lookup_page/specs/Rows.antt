@@ -4,12 +4,13 @@ use Rattle.std.specs.Prelude.{List, [], ◌∷◌, ℕ, suc, get_or, set, replic
 use Rattle.carried.specs.Carried.{width, row_in, put_row}
 use Rattle.lookup.specs.Lookup.{located_as, looked_in}
 use Rattle.model.specs.Store.{Told}
+use Rattle.refusal.specs.Refusals.{number_of}
 use Rattle.refusal.specs.declared.Refusal.{Refusal}
 
 -- what is told where a lookup answers this, and the id has this row
 abbrev pub told_as : Result ℕ Refusal → List ℕ → Told
 told_as (Ok location) row = record { number = 0; location = location; carried = row }
-told_as (Err r) row = record { number = r.number; location = 0; carried = replicate width 0 }
+told_as (Err r) row = record { number = number_of r.kind; location = 0; carried = replicate width 0 }
 
 unfoldable pub told_in : ℕ → ℕ → List ℕ → List ℕ → List ℕ → List ℕ → List ℕ → List ℕ → ℕ → Told
 told_in ids slots id_marks locations slot_marks owners words carried i =

@@ -3,7 +3,7 @@
 //     // asked: the ids, in any order and as often as one likes; numbers, found: as many rows; rows: as many times carried::WIDTH bytes
 //     match lookup_page::get_locations_for_objects(caps, &id_marks, &locations, &slot_marks, &owners, &tallies, &carried, &asked, numbers, found, rows) {
 //         Ok(()) => .. numbers[i] ..,     // 0: found[i] is the location of asked[i], and row i what its row carries; else 8 or 13, and zeros
-//         Err(refusal) => ..,       // 1; 15, over 256 ids; the lists are as they were
+//         Err(refusal) => ..,         // 1; 15, over 256 ids; the lists are as they were
 //     }
 //
 // Row i is what a lookup of asked[i] answers: none depends on another. The lengths are looked at once.
@@ -15,8 +15,8 @@ ghost use Rattle.address.specs.Address.{bad_slots, slabs};
 ghost use Rattle.carried.specs.Carried.{width};
 ghost use Rattle.model.specs.Lending.{row_tables};
 ghost use Rattle.model.specs.Lent.{fits_by};
-ghost use Rattle.lookup.specs.Lookup.{located_as, looked_in};
 ghost use Rattle.tables.specs.Entries.{owns_in};
+ghost use Rattle.lookup.specs.Lookup.{located_as, looked_in};
 ghost use Rattle.lookup_page.specs.Page.{Left, page, page_leaves};
 ghost use Rattle.lookup_page.specs.Rows.{told_as, told_in, put_number, put_location, put_carried, written};
 
@@ -56,7 +56,8 @@ fn fits(
     )
 }
 
-// Whether a slot of a slab is held and the id is its owner, of tables that fit.
+// As a lookup's own `owns` and `locate`, which are private there: they ask that the tables fit, and no public function asks anything.
+#[tactic(auto, using(lookup::proofs::Laws::slab_within))]
 fn owns(
     slots: usize,
     slot_marks: &[u8],
@@ -81,8 +82,7 @@ fn owns(
     owners[base + slot] == id
 }
 
-// One id, as a lookup looks at it. It is the page's own, and tests no length: a function that both calls share LLVM compiles into neither, and a lookup
-// then takes 1.7 times as long.
+#[tactic(auto, using(lookup::proofs::Laws::held_in_lt))]
 fn locate(
     caps: Capacities,
     id_marks: &[u8],
@@ -138,7 +138,7 @@ fn put_told(
             carried::put_row(rows, p, row);
         }
         Err(refusal) => {
-            numbers[p] = refusal.number;
+            numbers[p] = refusal.kind.number();
             found[p] = 0;
             carried::put_row(rows, p, &[0; WIDTH]);
         }
@@ -184,19 +184,16 @@ fn tell(
         tallies.now
         carried.now) asked.now)) }
 {
-    let mut p = 0;
-    while p < asked.len() {
-        let id = asked[p];
-        let looked = locate(caps, id_marks, locations, slot_marks, owners, tallies, id);
+    for (p, id) in asked.iter().enumerate() {
+        let looked = locate(caps, id_marks, locations, slot_marks, owners, tallies, *id);
         put_told(
             looked,
-            carried::row(carried, id as usize),
+            carried::row(carried, *id as usize),
             p,
             numbers,
             found,
             rows,
         );
-        p += 1;
     }
 }
 

@@ -5,9 +5,9 @@
 
 ghost use Rattle.std.specs.Prelude.{◌≡◌, false, map, ◌≤◌, length};
 ghost use Rattle.marks.specs.Marks.{is_pending, count_if};
-ghost use Rattle.marks.specs.Turned.{is_mark, released};
+ghost use Rattle.marks.specs.Turned.{released};
 
-use marks::{FREE, HELD, PENDING, has, turned_mark};
+use marks::{FREE, HELD, PENDING, has, has_other, turned_mark};
 
 // As many marks as a release looks at before it writes.
 const RELEASED: usize = 64;
@@ -24,31 +24,11 @@ fn release_part(marks: &mut [u8], zero: u8) -> u8
     ensures { (result ≡ count_if is_pending marks.old) × (marks.new ≡ map (released zero) marks.old) }
 {
     let mut n: u8 = 0;
-    let mut i: usize = 0;
-    while i < marks.len() {
-        let mark = marks[i];
-        marks[i] = released_mark(mark, zero);
-        if mark == PENDING {
-            n += 1;
-        }
-        i += 1;
+    for mark in marks {
+        n += (*mark == PENDING) as u8;
+        *mark = released_mark(*mark, zero);
     }
     n
-}
-
-// Whether any is another one.
-fn has_other(marks: &[u8], mark: u8) -> bool
-    ensures { result ≡ false → count_if (is_mark mark) marks.now ≡ length marks.now }
-{
-    let mut found = false;
-    let mut i: usize = 0;
-    while i < marks.len() {
-        if marks[i] != mark {
-            found = true;
-        }
-        i += 1;
-    }
-    found
 }
 
 // Whether a release may change any of these marks. Where a 0 stays, only a pending one is changed; where it does not, a held one never is.
@@ -77,12 +57,13 @@ fn release_some(marks: &mut [u8], zero: u8) -> usize
 pub fn release(marks: &mut [u8], zero: u8) -> usize
     ensures { (result ≡ count_if is_pending marks.old) × (marks.new ≡ map (released zero) marks.old) }
 {
+    // By places: once the parts of `chunks_exact_mut` are given back a proof knows the marks' length alone, and a loop over
+    // `split_first_chunk_mut` gets no generated proof.
+    let parts = marks.len() / RELEASED;
     let mut n: usize = 0;
-    let mut i: usize = 0;
-    while marks.len() - i >= RELEASED {
-        let end = i + RELEASED;
-        n += release_some(&mut marks[i..end], zero);
-        i = end;
+    for part in 0..parts {
+        let begin = part * RELEASED;
+        n += release_some(&mut marks[begin..begin + RELEASED], zero);
     }
-    n + release_some(&mut marks[i..], zero)
+    n + release_some(&mut marks[parts * RELEASED..], zero)
 }

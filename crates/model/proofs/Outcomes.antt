@@ -28,7 +28,7 @@ finished_answer_one a b = answer_one finished_outcome finished_outcome_one a b (
 
 -- ---- what a test that only reads says
 abbrev judged_back : Verdict → Result ⊤ Refusal
-judged_back ok = (Ok tt)
+judged_back ok = Ok tt
 judged_back (refuse number index) = Err (refusal number index)
 
 pub judged_verdict_one : (a b : Result ⊤ Refusal) → judged_verdict a ≡ judged_verdict b → a ≡ b

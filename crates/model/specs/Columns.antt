@@ -2,7 +2,7 @@
 use Rattle.std.specs.Prelude.{Bool, true, false, List, ℕ, ◌*◌, eqb, length, replicate}
 use Rattle.refusal.specs.declared.Kind.{Kind}
 use Rattle.refusal.specs.declared.Kind.TheVariants as K
-use Rattle.refusal.specs.Refusals.{no_such_id, repeated_id, key_too_long}
+use Rattle.refusal.specs.Refusals.{key_too_long}
 use Rattle.carried.specs.Carried.{width, put_rows, up_from, committed}
 use Rattle.keys.specs.Keys.{long_in, normal_rows, all_stored}
 use Rattle.model.specs.Store.{Row, Offer, Rows}

@@ -1,5 +1,5 @@
 -- Laws of the counters: the words of a kind are a part of the tallies, summed from the last to the first as the definition sums. Assumes nothing.
-use Rattle.std.proofs.Common.{◌≡◌, ℕ, suc, ◌+◌, ◌-◌, ◌%◌, ◌^◌, ◌<◌, ◌≤◌, true, not, eqb, List, [], ◌∷◌, ◌++◌, length, get_or, take, drop, set, sym, refl, ap, ◌∙◌, append-nil, add-one, arith, length-drop, drop_of_length-le, length-take, get_or-drop, take_all, drop-cons, get_or-take, take-suc, take-suc-set, eq-eqb, ne_eqb, eqb-true}
+use Rattle.std.proofs.Common.{◌≡◌, ℕ, suc, ◌+◌, ◌-◌, ◌%◌, ◌^◌, ◌<◌, ◌≤◌, true, not, eqb, List, ◌++◌, length, get_or, take, drop, sym, refl, ap, ◌∙◌, append-nil, arith, length-drop, drop_of_length-le, length-take, get_or-drop, drop-cons, get_or-take, eq-eqb, ne_eqb, eqb-true}
 use lib.Seq.{drop-length}
 use Rattle.refusal.specs.Outcomes.{granted, refused}
 use Rattle.refusal.proofs.Tests.{and_true}
@@ -43,19 +43,6 @@ module _ (g : List ℕ) (base : ℕ) where
       (λ j. (sym (words_at (i - 1) (omega arith)) j + e j) % 2 ^ 64)
       ∙ ap (λ n. (get_or (words g base) (i - 1) 0 + sum (drop n (words g base))) % 2 ^ 64) (sym next)
       ∙ ap sum (sym (drop-cons (words g base) (i - 1) 0 lt))
-
-  -- copied from the front
-  pub copy_turn : (out : List ℕ) (i v : ℕ) → base + allocators ≤ length g → i < allocators → length out ≡ allocators → take i out ≡ take i (words g base) → v ≡ get_or g (base + i) 0
-      → take (i + 1) (set out i v) ≡ take (i + 1) (words g base)
-  copy_turn out i v h lt lo e q =
-      let l : i < length out = omega arith in
-      let w : i < length (words g base) = omega (arith, words_long h) in
-      ap (λ n. take n (set out i v)) (add-one i) ∙ take-suc-set out i v l
-      ∙ (λ j. e j ++ ((q ∙ sym (words_at i lt)) j ∷ [])) ∙ sym (take-suc (words g base) i 0 w) ∙ ap (λ n. take n (words g base)) (sym (add-one i))
-
-  pub copy_end : (out : List ℕ) (i : ℕ) → base + allocators ≤ length g → length out ≤ i → length out ≡ allocators → take i out ≡ take i (words g base) → out ≡ words g base
-  copy_end out i h lt lo e =
-      sym (take_all i out lt) ∙ e ∙ take_all i (words g base) (omega (arith, words_long h))
 
 -- ---- the answer, on lengths and words
 pub counters_answer : (m : Memory) → answer (read m) (ask counters)

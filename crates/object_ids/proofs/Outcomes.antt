@@ -1,6 +1,6 @@
 -- The outcome tells which answer it is, and is that of the model's answer. Assumes nothing.
 use Rattle.std.proofs.Common.{◌≡◌, ℕ, List, get_or, refl}
-use Rattle.refusal.proofs.Outcomes.{outcome_one, one_by, read_back}
+use Rattle.refusal.proofs.Outcomes.{outcome_one}
 use Rattle.model.specs.Outcomes.{outcome_of}
 use Rattle.model.proofs.Outcomes.{answer_one}
 use Rattle.object_ids.specs.NewIds.{new_id_answer}
@@ -8,10 +8,11 @@ use Rattle.object_ids.specs.Counts.{counters_answer, stats_answer}
 use Rattle.object_ids.specs.Outcomes.{new_id_outcome, counted_outcome}
 use Rattle.std.specs.Prelude.{Result, Ok, Err}
 use Rattle.refusal.specs.declared.Refusal.{Refusal}
+use Rattle.object_ids.specs.declared.counts.AllocatorStats.{AllocatorStats}
 
 -- ---- a new id
 pub new_id_outcome_one : (a b : Result ℕ Refusal) → new_id_outcome a ≡ new_id_outcome b → a ≡ b
-new_id_outcome_one = outcome_one _ (λ vs. (get_or vs 0 0)) (λ _. refl)
+new_id_outcome_one = outcome_one _ (λ vs. get_or vs 0 0) (λ _. refl)
 
 pub new_id_answer_outcome : (a : Result ℕ Refusal) → outcome_of (new_id_answer a) ≡ new_id_outcome a
 new_id_answer_outcome (Ok id) = refl
@@ -23,16 +24,14 @@ new_id_answer_one a b = answer_one new_id_outcome new_id_outcome_one a b (new_id
 -- ---- counters
 pub counted_outcome_one : (a b : Result AllocatorStats Refusal) → counted_outcome a ≡ counted_outcome b → a ≡ b
 counted_outcome_one =
-    one_by counted_outcome
-    (read_back
-    (λ vs. Ok (record {
+    outcome_one _
+    (λ vs. record {
       objects_allocated = get_or vs 0 0;
       objects_freed = get_or vs 1 0;
       heap_slots_allocated = get_or vs 2 0;
       heap_slots_freed = get_or vs 3 0;
-    }))
-    Err)
-    λ c. elim c as (λ k. (read_back (λ vs. Ok (record { objects_allocated = get_or vs 0 0; objects_freed = get_or vs 1 0; heap_slots_allocated = get_or vs 2 0; heap_slots_freed = get_or vs 3 0 })) Err) (counted_outcome k) ≡ k) [ Ok z ↦ refl | Err r ↦ refl ]
+    })
+    (λ _. refl)
 
 pub counters_answer_outcome : (g f : List ℕ) (a : Result AllocatorStats Refusal) → outcome_of (counters_answer g f a) ≡ counted_outcome a
 counters_answer_outcome g f (Ok z) = refl

@@ -25,10 +25,8 @@ fn slots_sum(tallies: &[u64], base: usize) -> u64
     ensures { result ≡ sum (drop 1 (take allocators (drop base tallies.now))) }
 {
     let mut total: u64 = 0;
-    let mut i = ALLOCATORS;
-    while 1 < i {
-        i -= 1;
-        total = std::num::wrapping_add_u64(tables::get(tallies, base, i), total);
+    for slab in (1..ALLOCATORS).rev() {
+        total = tables::get(tallies, base, slab).wrapping_add(total);
     }
     total
 }
@@ -54,11 +52,7 @@ fn copy_words(tallies: &[u64], base: usize, out: &mut [u64])
     requires { (base + allocators ≤ length tallies.now) × (length out.old ≡ allocators) }
     ensures { out.new ≡ take allocators (drop base tallies.now) }
 {
-    let mut i: usize = 0;
-    while i < out.len() {
-        out[i] = tables::get(tallies, base, i);
-        i += 1;
-    }
+    out.copy_from_slice(&tallies[base..base + ALLOCATORS]);
 }
 
 // Each allocator's pair, the ids' first, then the slabs', in two lent lists of ALLOCATORS rows; and the four sums.
@@ -84,12 +78,8 @@ pub fn counters(
     if freed.len() != ALLOCATORS {
         return Err(Refusal::of(Kind::WrongShape));
     }
-    match stats(caps, tallies) {
-        Ok(stats) => {
-            copy_words(tallies, tables::GRANTED, granted);
-            copy_words(tallies, tables::FREED, freed);
-            Ok(stats)
-        }
-        Err(refusal) => Err(refusal),
-    }
+    let stats = stats(caps, tallies)?;
+    copy_words(tallies, tables::GRANTED, granted);
+    copy_words(tallies, tables::FREED, freed);
+    Ok(stats)
 }

@@ -12,7 +12,12 @@ use refusal::{Kind, Refusal};
 use tables::Capacities;
 
 // The id that is next, or why there is none.
-fn next_id(caps: Capacities, id_marks: &[u8], batch: &[u64], tallies: &[u64]) -> Result<u64, Refusal>
+fn next_id(
+    caps: Capacities,
+    id_marks: &[u8],
+    batch: &[u64],
+    tallies: &[u64],
+) -> Result<u64, Refusal>
     ensures { new_id_answer result
         ≡ answered new_id caps.ids caps.slots
         id_marks.now
@@ -34,6 +39,7 @@ fn next_id(caps: Capacities, id_marks: &[u8], batch: &[u64], tallies: &[u64]) ->
 }
 
 // A mark, held if it was free.
+#[tactic(auto, using(id_allocator::proofs::LawsHinted::hold_busy))]
 fn held(mark: u8) -> u8
     ensures { result ≡ hold mark }
 {
@@ -92,11 +98,7 @@ pub fn allocate_object_id(
         batch.now
         tallies.old }
 {
-    match next_id(caps, id_marks, batch, tallies) {
-        Ok(id) => {
-            hold_id(id_marks, tallies, id as usize);
-            Ok(id)
-        }
-        Err(refusal) => Err(refusal),
-    }
+    let id = next_id(caps, id_marks, batch, tallies)?;
+    hold_id(id_marks, tallies, id as usize);
+    Ok(id)
 }

@@ -66,22 +66,18 @@ pub fn place(
         ≡ take_slots slots (slots_in slot_marks.old tallies.old)
         (place_in slots (slots_in slot_marks.old tallies.old) slabs.now)) }
 {
-    let mut i: usize = 0;
-    while i < slabs.len() {
-        let location = spot(slots, slot_marks, tallies, slabs[i]);
+    for (i, slab) in slabs.iter().enumerate() {
+        let location = spot(slots, slot_marks, tallies, *slab);
         take_slot(slots, slot_marks, tallies, location);
         put(placed, 0, i, location);
-        i += 1;
     }
 }
 
 fn copy(words: &mut [u64], base: usize, from: &[u64])
     ensures { words.new ≡ sets words.old base from.now }
 {
-    let mut i: usize = 0;
-    while i < from.len() {
-        put(words, base, i, from[i]);
-        i += 1;
+    for (i, word) in from.iter().enumerate() {
+        put(words, base, i, *word);
     }
 }
 

@@ -18,6 +18,7 @@ ghost use Rattle.model.specs.Verdict.{judged_verdict};
 ghost use Rattle.offer_room.specs.Room.{free_in, tallied, none_asked, room_in_all};
 
 use address::SlabAddress;
+use marks::FREE;
 use refusal::{Kind, Refusal};
 use tables::{HINT, add, get, slab_marks};
 
@@ -26,10 +27,8 @@ pub fn tally(slabs: &[usize]) -> [u64; SlabAddress::SLABS]
     ensures { result ≡ tallied none_asked slabs.now }
 {
     let mut asked = [0u64; SlabAddress::SLABS];
-    let mut i: usize = 0;
-    while i < slabs.len() {
-        add(&mut asked, 0, slabs[i], 1);
-        i += 1;
+    for slab in slabs {
+        add(&mut asked, 0, *slab, 1);
     }
     asked
 }
@@ -39,14 +38,12 @@ fn lacks_few(marks: &[u8], hint: usize, asked: u64) -> bool
     ensures { result ≡ ltb (count_if is_free (hinted hint marks.now)) asked }
 {
     let mut from: usize = 0;
-    let mut left = asked;
-    while 0 < left {
+    for _ in 0..asked {
         let at = id_allocator::smallest_free(marks, hint, from);
         if marks.len() <= at {
             return true;
         }
         from = at + 1;
-        left -= 1;
     }
     false
 }
@@ -55,8 +52,7 @@ fn lacks_few(marks: &[u8], hint: usize, asked: u64) -> bool
 fn free_in(marks: &[u8]) -> usize
     ensures { result ≡ count_if is_free marks.now }
 {
-    let none: usize = 0;
-    marks.len() - id_allocator::live(marks, none)
+    marks::count(marks, FREE)
 }
 
 // As many marks as are counted before it is asked whether that is enough.
@@ -67,16 +63,15 @@ fn lacks_many(marks: &[u8], asked: u64) -> bool
     ensures { result ≡ ltb (count_if is_free marks.now) asked }
 {
     let mut free: usize = 0;
-    let mut i: usize = 0;
-    while marks.len() - i >= STRETCH {
-        let end = i + STRETCH;
-        free += free_in(&marks[i..end]);
+    let mut left = marks;
+    while let Some((stretch, rest)) = left.split_first_chunk::<STRETCH>() {
+        free += free_in(stretch);
         if asked <= free as u64 {
             return false;
         }
-        i = end;
+        left = rest;
     }
-    free += free_in(&marks[i..]);
+    free += free_in(left);
     (free as u64) < asked
 }
 
@@ -110,12 +105,10 @@ fn slab_lacks(slots: usize, slot_marks: &[u8], tallies: &[u64], slab: usize, ask
 pub fn room(slots: usize, slot_marks: &[u8], tallies: &[u64], asked: &[u64]) -> Result<(), Refusal>
     ensures { judged_verdict result ≡ room_in_all slots slot_marks.now tallies.now asked.now }
 {
-    let mut slab: usize = 0;
-    while slab < SlabAddress::SLABS {
+    for slab in 0..SlabAddress::SLABS {
         if slab_lacks(slots, slot_marks, tallies, slab, get(asked, 0, slab)) {
             return Err(Refusal::at(Kind::NoneFree, slab));
         }
-        slab += 1;
     }
     Ok(())
 }

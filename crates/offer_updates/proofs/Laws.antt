@@ -1,5 +1,5 @@
 -- Laws of the updates, a turn at a time: the slab of each, the ids before one, and the tests in their order. Assumes nothing.
-use mathlib.Core.Bool.{Bool, true, false, not, cond}
+use mathlib.Core.Bool.{Bool, true, false, not, cond, ◌||◌}
 use mathlib.Core.List.{List, [], ◌∷◌}
 use mathlib.Core.Logic.{◌⊎◌, inl, inr}
 use mathlib.Core.Path.{◌≡◌, refl, sym, ap, ◌∙◌}
@@ -8,14 +8,17 @@ use native.Mathlib.Decide.{ℕ_discrete}
 use native.Mathlib.Numerals.{add-one}
 use native.Mathlib.Omega.{arith}
 use lib.Dec.{leb, ltb, eqb}
-use lib.ListN.{length, get_or, drop, set, drop_of_length-le}
+use lib.ListN.{length, get_or, take, drop, set, drop_of_length-le}
 use lib.Seq.{sets, drop-cons, set_out, get_or-set_same, get_or-set_other}
-use borrow.Author.Tests.{eq-eqb, ne_eqb, ltb-false}
+use borrow.Author.Tests.{eq-eqb, eqb-true, ne_eqb, ltb-false}
+use Rattle.std.specs.List.{list_any}
+use Rattle.std.proofs.lemmas.List.Folds.{list_any_more}
 use Rattle.refusal.specs.declared.Kind.{Kind}
 use Rattle.refusal.specs.declared.Refusal.{Refusal}
 use Rattle.refusal.specs.Refusals.{refusal, no_such_id, repeated_id, too_large, tables_disagree}
-use Rattle.refusal.proofs.Tests.{clash, by_test}
+use Rattle.refusal.proofs.Tests.{clash, by_test, both_ways}
 use Rattle.list_parts.specs.Lists.{elem}
+use Rattle.keys.specs.Keys.{stores_of, is_store}
 use Rattle.list_parts.proofs.Lists.{elem_cases}
 use Rattle.sizes.specs.Sizes.{slab_sizes, first_fit, slab_for, class_of, field_width, check_width, slabs}
 use Rattle.sizes.proofs.Laws.{length_slab_sizes}
@@ -60,38 +63,42 @@ kind_of_none true n r h e =
     (λ t. let s : Ok (slab_for n) ≡ Err r = rw t at e in let z : ◌≡◌ {A = ℕ} 0 1 = cc in absurd (omega arith))
     (λ t. omega (arith, ltb-false (slab_for n) slabs t, slab_for_le n))
 
--- a turn, and the three ends
-pub kinds_turn : (ss : List Bool) (ns out : List ℕ) (i v : ℕ) (s : Bool) → i < length ss → i < length ns → s ≡ get_or ss i false
-    → v ≡ kind_of s (get_or ns i 0)
-    → sets (set out i v) (i + 1) (kinds_of (drop (i + 1) ss) (drop (i + 1) ns)) ≡ sets out i (kinds_of (drop i ss) (drop i ns))
-kinds_turn ss ns out i v s h g f e = rw (add-one i, drop-cons ss i false h, drop-cons ns i 0 g, e, f)
-
-pub kinds_end : (ss : List Bool) (ns out : List ℕ) (i : ℕ) → length ss ≤ i → out ≡ sets out i (kinds_of (drop i ss) (drop i ns))
-kinds_end ss ns out i h = rw (drop_of_length-le ss h)
+-- a turn, and the ends
+pub kinds_turn : (bs bs' ns ns' out : List ℕ) (i j b n v : ℕ) → bs ≡ b ∷ bs' → ns ≡ n ∷ ns' → j ≡ i + 1 → v ≡ kind_of (is_store b) n
+    → sets (set out i v) j (kinds_of (stores_of bs') ns') ≡ sets out i (kinds_of (stores_of bs) ns)
+kinds_turn bs bs' ns ns' out i j b n v e f g h = rw (e, f, g, add-one i, h) refl
 
 kinds_of_nil : (ss : List Bool) → kinds_of ss [] ≡ []
 kinds_of_nil [] = refl
 kinds_of_nil (s ∷ ss) = refl
 
-pub kinds_short : (ss : List Bool) (ns out : List ℕ) (i : ℕ) → length ns ≤ i → out ≡ sets out i (kinds_of (drop i ss) (drop i ns))
-kinds_short ss ns out i h = rw (drop_of_length-le ns h, kinds_of_nil (drop i ss))
+pub kinds_end : (bs ns out : List ℕ) (i : ℕ) → (length bs ≡ 0) ⊎ (length ns ≡ 0) → out ≡ sets out i (kinds_of (stores_of bs) ns)
+kinds_end [] ns out i e = refl
+kinds_end (b ∷ bs) [] out i e = refl
+kinds_end (b ∷ bs) (n ∷ ns) out i (inl e) = absurd (omega arith)
+kinds_end (b ∷ bs) (n ∷ ns) out i (inr e) = absurd (omega arith)
 
 pub sets_out : (vs l : List ℕ) (i : ℕ) → length l ≤ i → l ≡ sets l i vs
 sets_out [] l i h = refl
 sets_out (v ∷ vs) l i h = rw (set_out l i v h) (sets_out vs l (suc i) (omega arith))
 
 -- ---- the ids before an update
-pub before_met : (x : ℕ) (is : List ℕ) (j : ℕ) → 0 < j → get_or is (j - 1) 0 ≡ x → elem x (before j is) ≡ true
-before_met x is zero h e = absurd (omega arith)
-before_met x is (suc j) h e =
-    let p : suc j - 1 ≡ j = omega arith in
-    rw (eq-eqb x (get_or is j 0) (sym (rw p at e)))
+or_swap : (a b : Bool) → (a || b) ≡ (b || a)
+or_swap true true = refl
+or_swap true false = refl
+or_swap false true = refl
+or_swap false false = refl
 
-pub before_not : (x : ℕ) (is : List ℕ) (j : ℕ) → 0 < j → (get_or is (j - 1) 0 ≡ x → ⊥) → elem x (before j is) ≡ elem x (before (j - 1) is)
-before_not x is zero h n = absurd (omega arith)
-before_not x is (suc j) h n =
-    let p : suc j - 1 ≡ j = omega arith in
-    rw (p, ne_eqb x (get_or is j 0) (λ e. n (ap (λ y. get_or is y 0) p ∙ sym e)))
+eqb_swap : (a b : ℕ) → eqb a b ≡ eqb b a
+eqb_swap a b = both_ways (eqb a b) (eqb b a) (λ e. eq-eqb b a (sym (eqb-true a b e))) (λ e. eq-eqb a b (sym (eqb-true b a e)))
+
+pub repeated_any : (x : ℕ) (is : List ℕ) (i : ℕ) → i ≤ length is → list_any (λ (y : ℕ). eqb y x) (take i is) ≡ elem x (before i is)
+repeated_any x is zero h = refl
+repeated_any x is (suc i) h =
+    ap (λ n. list_any (λ (y : ℕ). eqb y x) (take n is)) (sym (add-one i))
+    ∙ list_any_more (λ (y : ℕ). eqb y x) is i 0 (omega arith)
+    ∙ (λ k. repeated_any x is i (omega arith) k || eqb_swap (get_or is i 0) x k)
+    ∙ or_swap (elem x (before i is)) (eqb x (get_or is i 0))
 
 -- ---- the tests
 pub check_in_turn : (m : Memory) (is ks : List ℕ) (i : ℕ) → i < length is → i < length ks

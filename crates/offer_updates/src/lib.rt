@@ -49,16 +49,11 @@ pub fn kinds(stores: &[u8], lengths: &[u64]) -> [usize; MOST_UPDATES]
     ensures { result ≡ sets no_kinds 0 (kinds_of (stores_of stores.now) lengths.now) }
 {
     let mut slabs = [NO_SLAB; MOST_UPDATES];
-    let mut i: usize = 0;
-    while i < stores.len() {
-        if lengths.len() <= i {
-            return slabs;
-        }
+    for (i, (store, length)) in stores.iter().zip(lengths).enumerate() {
         if MOST_UPDATES <= i {
             return slabs;
         }
-        slabs[i] = kind(keys::is_store(stores[i]), lengths[i]);
-        i += 1;
+        slabs[i] = kind(keys::is_store(*store), *length);
     }
     slabs
 }
@@ -68,15 +63,7 @@ fn repeated(ids: &[u64], i: usize) -> bool
     requires { i < length ids.now }
     ensures { result ≡ elem (get_or ids.now i 0) (before i ids.now) }
 {
-    let id = ids[i];
-    let mut j = i;
-    while 0 < j {
-        j -= 1;
-        if ids[j] == id {
-            return true;
-        }
-    }
-    false
+    ids[..i].contains(&ids[i])
 }
 
 // The same. `near` is false only where no earlier id is the same.
@@ -98,13 +85,11 @@ fn locations_of(locations: &[u64], ids: &[u64]) -> [u64; MOST_UPDATES]
         → get_or result k 0 ≡ get_or locations.now (0 + get_or ids.now k 0) 0) }
 {
     let mut found = [0u64; MOST_UPDATES];
-    let mut i: usize = 0;
-    while i < ids.len() {
+    for (i, id) in ids.iter().enumerate() {
         if MOST_UPDATES <= i {
             return found;
         }
-        found[i] = get(locations, 0, ids[i] as usize);
-        i += 1;
+        found[i] = get(locations, 0, *id as usize);
     }
     found
 }

@@ -11,6 +11,7 @@ use lib.Ieee.{Float}
 use borrow.Author.Tests.{ne_eqb, lt-ltb, le-ltb}
 use Rattle.refusal.specs.Outcomes.{granted, refused_as}
 use Rattle.refusal.specs.Refusals.{refusal, wrong_shape, batch_open, tables_disagree, ratio_out_of_range}
+use Rattle.refusal.specs.declared.Kind.{Kind}
 use Rattle.refusal.specs.declared.Refusal.{Refusal}
 use Rattle.refusal.proofs.Tests.{by_test}
 use Rattle.list_parts.specs.Parts.{part}
@@ -84,7 +85,7 @@ pub object_at : (ids slots : ℕ) (id_marks locations slot_marks owners words : 
 unfolding object_in
 object_at ids slots id_marks locations slot_marks owners words i a = go (held_in ids id_marks words i) (unpacked slots (get_or locations i 0))
   where
-    none : {A : Type 0} → ◌≡◌ {A = (Result (Option SlabAddress) Refusal)} (Ok None) (Ok (Some a)) → A
+    none : {A : Type 0} → ◌≡◌ {A = Result (Option SlabAddress) Refusal} (Ok None) (Ok (Some a)) → A
     none e = let z : ◌≡◌ {A = ℕ} 0 1 = cc in absurd (omega arith)
 
     wrong : {A : Type 0} → Err (refusal tables_disagree 0) ≡ Ok (Some a) → A
@@ -94,7 +95,7 @@ object_at ids slots id_marks locations slot_marks owners words i a = go (held_in
     without true e = none e
     without false e = wrong e
 
-    own : (b : Bool) (x : SlabAddress) → cond b (Ok (Some x)) (Err (refusal tables_disagree 0)) ≡ Ok (Some a) → Ok (Some x) ≡ Ok (Some a)
+    own : (b : Bool) (x : SlabAddress) → cond b (Ok (Some x)) (Err (refusal tables_disagree 0)) ≡ Ok (Some a) → ◌≡◌ {A = Result (Option SlabAddress) Refusal} (Ok (Some x)) (Ok (Some a))
     own true x e = e
     own false x e = wrong e
 
@@ -184,14 +185,14 @@ module _ (m : Memory) (i : ℕ) (r : Float) where
   abbrev object : Result (Option SlabAddress) Refusal
   object = object_in m.ids m.slots m.id_marks m.locations m.slot_marks m.owners m.tallies i
 
-  abbrev pub Says : Reason → Type 0
+  abbrev pub Says : Result Reason Refusal → Type 0
   Says a = reason_answer a ≡ answer (read m) asked
 
-  refused_says : (n : ℕ) → S.refusal (read m) asked ≡ refuse n 0 → Says (R.Refused (refusal n 0))
+  refused_says : (n : Kind) → S.refusal (read m) asked ≡ refuse n 0 → Says (Err (refusal n 0))
   unfolding answer
   refused_says n e = sym (ap (λ v. answer_by v (grant (read m) asked)) e)
 
-  pub says_shape : fits reason_tables m ≡ false → Says (R.Refused (refusal wrong_shape 0))
+  pub says_shape : fits reason_tables m ≡ false → Says (Err (refusal wrong_shape 0))
   says_shape e = refused_says wrong_shape (refused_shape m asked e)
 
   module _ (f : fits reason_tables m ≡ true) where
@@ -200,7 +201,7 @@ module _ (m : Memory) (i : ℕ) (r : Float) where
     unfolding refusal_of ask_refusal read
     rest = fits_rest m asked f
 
-    pub says_open : (get_or m.batch 0 0 ≡ 0 → ⊥) → Says (R.Refused (refusal batch_open 0))
+    pub says_open : (get_or m.batch 0 0 ≡ 0 → ⊥) → Says (Err (refusal batch_open 0))
     unfolding test ◌⨾◌
     says_open o =
         refused_says batch_open (rest ∙ ap (λ b. test b batch_open 0 ⨾ test (not (is_ratio r)) ratio_out_of_range 0 ⨾ test (is_stored (read m) i && bad_location (read m) i) tables_disagree 0)
@@ -213,7 +214,7 @@ module _ (m : Memory) (i : ℕ) (r : Float) where
       by_ratio b e =
           rest ∙ (λ k. test (le-ltb 0 (get_or m.batch 0 0) (omega arith) k) batch_open 0 ⨾ test (not (e k)) ratio_out_of_range 0 ⨾ test (is_stored (read m) i && bad_location (read m) i) tables_disagree 0)
 
-      pub says_ratio : is_ratio r ≡ false → Says (R.Refused (refusal ratio_out_of_range 0))
+      pub says_ratio : is_ratio r ≡ false → Says (Err (refusal ratio_out_of_range 0))
       unfolding test ◌⨾◌
       says_ratio e = refused_says ratio_out_of_range (by_ratio false e)
 
@@ -253,10 +254,10 @@ module _ (m : Memory) (i : ℕ) (r : Float) where
             (because (reason_of (read m) r i)))
             ∙ by_object_lem (held_in m.ids m.id_marks m.tallies i) (unpacked m.slots here) refl
 
-        pub says_none : (Ok None) ≡ object → Says R.NotStored
+        pub says_none : Ok None ≡ object → Says (Ok R.NotStored)
         says_none e = sym (answer_is ∙ ap by_object (sym e))
 
-        pub says_refused : (x : Refusal) → Err x ≡ object → Says (R.Refused x)
+        pub says_refused : (x : Refusal) → Err x ≡ object → Says (Err x)
         says_refused x e = sym (answer_is ∙ ap by_object (sym e))
 
         pub object_slab : (a : SlabAddress) → Ok (Some a) ≡ object → a.slab < slabs

@@ -1,6 +1,7 @@
 -- The outcome of asking for a reason: document 02's number and values. Assumes nothing.
-use Rattle.std.specs.Prelude.{List, [], ◌∷◌, ℕ}
-use Rattle.refusal.specs.Outcomes.{Values, granted, refused_as}
+use Rattle.std.specs.Prelude.{List, [], ◌∷◌, ℕ, Result}
+use Rattle.refusal.specs.Outcomes.{Values, outcome_by}
+use Rattle.refusal.specs.declared.Refusal.{Refusal}
 use Rattle.reason.specs.declared.Standing.{Standing}
 use Rattle.reason.specs.declared.Reason.{Reason}
 use Rattle.reason.specs.declared.Reason.TheVariants as R
@@ -10,9 +11,11 @@ abbrev pub standing_values : ℕ → Standing → ℕ → List ℕ
 standing_values n w line = n ∷ w.slab ∷ w.slot ∷ w.smaller ∷ w.live ∷ w.tip ∷ line ∷ []
 
 -- zeros where nothing is stored, and for the line where there is none
-abbrev pub reason_outcome : Reason → Values
-reason_outcome R.NotStored = granted (0 ∷ 0 ∷ 0 ∷ 0 ∷ 0 ∷ 0 ∷ 0 ∷ [])
-reason_outcome (R.FullEnough w) = granted (standing_values 1 w 0)
-reason_outcome (R.BeforeLine w line) = granted (standing_values 2 w line)
-reason_outcome (R.Listed w line) = granted (standing_values 3 w line)
-reason_outcome (R.Refused r) = refused_as r
+abbrev pub reason_says : Reason → List ℕ
+reason_says R.NotStored = 0 ∷ 0 ∷ 0 ∷ 0 ∷ 0 ∷ 0 ∷ 0 ∷ []
+reason_says (R.FullEnough w) = standing_values 1 w 0
+reason_says (R.BeforeLine w line) = standing_values 2 w line
+reason_says (R.Listed w line) = standing_values 3 w line
+
+abbrev pub reason_outcome : Result Reason Refusal → Values
+reason_outcome r = outcome_by reason_says r

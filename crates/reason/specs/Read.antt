@@ -48,11 +48,11 @@ standing_in slots slot_marks words a = record {
 abbrev pub by_line : Standing → ℕ → Reason
 by_line w line = cond (ltb w.slot line) (R.BeforeLine w line) (R.Listed w line)
 
-abbrev pub by_cutoff : Standing → Result (Option ℕ) Refusal → Reason
-by_cutoff w (Ok (Some line)) = by_line w line
-by_cutoff w (Ok None) = R.FullEnough w
-by_cutoff w (Err r) = R.Refused r
+abbrev pub by_cutoff : Standing → Result (Option ℕ) Refusal → Result Reason Refusal
+by_cutoff w (Ok (Some line)) = Ok (by_line w line)
+by_cutoff w (Ok None) = Ok (R.FullEnough w)
+by_cutoff w (Err r) = Err r
 
-unfoldable pub reason_in : ℕ → List ℕ → List ℕ → SlabAddress → Float → Reason
+unfoldable pub reason_in : ℕ → List ℕ → List ℕ → SlabAddress → Float → Result Reason Refusal
 reason_in slots slot_marks words a r =
     by_cutoff (standing_in slots slot_marks words a) (cutoff_of (standing_in slots slot_marks words a).live (standing_in slots slot_marks words a).tip r)

@@ -1,11 +1,11 @@
 // Why an object is to be moved, or is not (document 02, 2026-08; document 01, "Defrag and truncation").
 //
 //     match reason::reason_for_object(caps, &id_marks, &locations, &slot_marks, &owners, &batch, &tallies, id, 0.75) {
-//         Reason::NotStored => ..,                   // no such stored object: a lookup is refused with 8
-//         Reason::FullEnough(standing) => ..,        // nothing of its slab is listed
-//         Reason::BeforeLine(standing, line) => ..,  // its slot is before the line, the first slot that is looked at
-//         Reason::Listed(standing, line) => ..,      // the defrag list of this ratio has it
-//         Reason::Refused(refusal) => ..,            // 1, 11, 14; 13, the tables contradict each other
+//         Ok(Reason::NotStored) => ..,                   // no such stored object: a lookup is refused with 8
+//         Ok(Reason::FullEnough(standing)) => ..,        // nothing of its slab is listed
+//         Ok(Reason::BeforeLine(standing, line)) => ..,  // its slot is before the line, the first slot that is looked at
+//         Ok(Reason::Listed(standing, line)) => ..,      // the defrag list of this ratio has it
+//         Err(refusal) => ..,                            // 1, 11, 14; 13, the tables contradict each other
 //     }
 //
 // The standing is the object's slab and slot, how many smaller slots of the slab are held or pending, and the slab's live slots and tip. No table is written.
@@ -39,7 +39,6 @@ pub enum Reason {
     FullEnough(Standing),
     BeforeLine(Standing, usize),
     Listed(Standing, usize),
-    Refused(Refusal),
 }
 
 // ---- the object of an id
@@ -49,9 +48,10 @@ fn without_address(location: u64) -> Result<Option<SlabAddress>, Refusal>
     ensures { result ≡ without_address location }
 {
     if location == 0 {
-        return Ok(None);
+        Ok(None)
+    } else {
+        Err(Refusal::of(Kind::TablesDisagree))
     }
-    Err(Refusal::of(Kind::TablesDisagree))
 }
 
 // Its address; no object where a lookup is refused with 8.
@@ -143,15 +143,14 @@ fn reason_at(
     tallies: &[u64],
     address: SlabAddress,
     r: f32,
-) -> Reason
+) -> Result<Reason, Refusal>
     requires { address.slab < slabs }
     ensures { result ≡ reason_in slots slot_marks.now tallies.now address r }
 {
     let standing = stands_at(slots, slot_marks, tallies, address);
-    match fragmentation::fragmentation_cutoff(standing.live, standing.tip, r) {
-        Ok(Some(line)) => by_line(standing, line),
-        Ok(None) => Reason::FullEnough(standing),
-        Err(refusal) => Reason::Refused(refusal),
+    match fragmentation::fragmentation_cutoff(standing.live, standing.tip, r)? {
+        Some(line) => Ok(by_line(standing, line)),
+        None => Ok(Reason::FullEnough(standing)),
     }
 }
 
@@ -165,7 +164,7 @@ pub fn reason_for_object(
     tallies: &[u64],
     id: u64,
     r: f32,
-) -> Reason
+) -> Result<Reason, Refusal>
     ensures { reason_answer result
         ≡ answered (ask (why id r)) caps.ids caps.slots
         id_marks.now
@@ -184,18 +183,16 @@ pub fn reason_for_object(
         batch.len(),
         tallies.len(),
     ) {
-        return Reason::Refused(Refusal::of(Kind::WrongShape));
+        return Err(Refusal::of(Kind::WrongShape));
     }
     if tables::get(batch, 0, 0) != 0 {
-        return Reason::Refused(Refusal::of(Kind::BatchOpen));
+        return Err(Refusal::of(Kind::BatchOpen));
     }
     if fragmentation::bad_ratio(r) {
-        return Reason::Refused(Refusal::of(Kind::RatioOutOfRange));
+        return Err(Refusal::of(Kind::RatioOutOfRange));
     }
-    let slots = caps.slots;
-    match object_of(caps, id_marks, locations, slot_marks, owners, tallies, id) {
-        Ok(None) => Reason::NotStored,
-        Ok(Some(address)) => reason_at(slots, slot_marks, tallies, address, r),
-        Err(refusal) => Reason::Refused(refusal),
+    match object_of(caps, id_marks, locations, slot_marks, owners, tallies, id)? {
+        Some(address) => reason_at(caps.slots, slot_marks, tallies, address, r),
+        None => Ok(Reason::NotStored),
     }
 }

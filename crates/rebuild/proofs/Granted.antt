@@ -9,7 +9,7 @@ use lib.Dec.{eqb, ltb}
 use lib.ListN.{length, length-map, replicate}
 use lib.Seq.{set-get_or}
 use borrow.Author.Tests.{eqb-true, eq-eqb, ne_eqb, lt-ltb, le-ltb, ltb-false, not-true, not-false}
-use Rattle.refusal.proofs.Tests.{and_true, by_test, clash}
+use Rattle.refusal.proofs.Tests.{all, and_true, by_test, clash}
 use Rattle.refusal.specs.Outcomes.{granted, refused}
 use Rattle.refusal.specs.Refusals.{wrong_shape, key_too_long}
 use Rattle.carried.specs.Carried.{width, put_rows}
@@ -30,7 +30,8 @@ use Rattle.model.proofs.Keyed.{first_long_lem}
 use Rattle.model.proofs.Verdicts.{earlier_alone}
 use Rattle.model.proofs.Sizes.{shape_read, fits_range, fits_id_marks, fits_locations, fits_slot_marks, fits_owners, fits_batch, fits_tallies, fits_carried}
 use Rattle.rebuild_rows.specs.Checks.{refused_row, wrong_verdict}
-use Rattle.rebuild_rows.specs.declared.Wrong.{Wrong}
+use Rattle.refusal.specs.declared.Refusal.{Refusal}
+use Rattle.std.specs.Prelude.{Result, Ok, Err, ⊤}
 use Rattle.rebuild_rows.proofs.Checked.{verdict_is, rows_length}
 
 -- ---- fresh
@@ -94,29 +95,29 @@ module _ (i k : ℕ) where
   decides_not : k < i → decides ≡ false
   decides_not h = rw (le-ltb i k (omega arith), ne_eqb i k (λ e. omega arith))
 
-module _ (w : Wrong) (k n : ℕ) where
-  abbrev Keyed : Verdict
-  Keyed = earlier (λ n. true) (wrong_verdict w) (test (ltb k n) key_too_long k)
+module _ (k n : ℕ) where
+  abbrev Keyed : Result ⊤ Refusal → Verdict
+  Keyed w = earlier (λ n. true) (wrong_verdict w) (test (ltb k n) key_too_long k)
 
-  pub keys_short : n ≤ k → wrong_verdict w ≡ Keyed
+  pub keys_short : (w : Result ⊤ Refusal) → n ≤ k → wrong_verdict w ≡ Keyed w
   unfolding test
-  keys_short h = rw (le-ltb k n h) (earlier_alone (λ n. true) (wrong_verdict w))
+  keys_short w h = rw (le-ltb k n h) (earlier_alone (λ n. true) (wrong_verdict w))
 
   module _ (h : k < n) where
-    pub keys_alone : w.number ≡ 0 → refuse key_too_long k ≡ Keyed
+    pub keys_alone : {w : Result ⊤ Refusal} {d : ⊤} → w ≡ Ok d → refuse key_too_long k ≡ Keyed w
     unfolding earlier test
-    keys_alone z = rw (eq-eqb w.number 0 z, lt-ltb k n h)
+    keys_alone e = rw (e, lt-ltb k n h)
 
-    module _ (z : w.number ≡ 0 → ⊥) where
-      both_refuse : {b : Bool} → decides w.row k ≡ b → cond b (refuse w.number w.row) (refuse key_too_long k) ≡ Keyed
+    module _ {w : Result ⊤ Refusal} {r : Refusal} (e : w ≡ Err r) where
+      both_refuse : {b : Bool} → decides r.index k ≡ b → cond b (refuse r.kind r.index) (refuse key_too_long k) ≡ Keyed w
       unfolding earlier test
-      both_refuse e = rw (ne_eqb w.number 0 z, lt-ltb k n h) (ap (λ b. cond b (refuse w.number w.row) (refuse key_too_long k)) (sym e))
+      both_refuse q = rw (e, lt-ltb k n h) (ap (λ b. cond b (refuse r.kind r.index) (refuse key_too_long k)) (sym q))
 
-      pub keys_after : w.row ≤ k → wrong_verdict w ≡ Keyed
-      keys_after q = ap (λ b. cond b ok (refuse w.number w.row)) (ne_eqb w.number 0 z) ∙ both_refuse (decides_to w.row k q)
+      pub keys_after : r.index ≤ k → refuse r.kind r.index ≡ Keyed w
+      keys_after q = both_refuse (decides_to r.index k q)
 
-      pub keys_before : k < w.row → refuse key_too_long k ≡ Keyed
-      keys_before q = both_refuse (decides_not w.row k q)
+      pub keys_before : k < r.index → refuse key_too_long k ≡ Keyed w
+      keys_before q = both_refuse (decides_not r.index k q)
 
 -- the memory that it leaves
 abbrev rebuilt_memory : Memory → List ℕ → List ℕ → List ℕ → Memory
@@ -163,11 +164,14 @@ module _ (m : Memory) (is ls bs : List ℕ) where
   abbrev fit : Bool
   fit = fits every_table m && long
 
-  pub fit_not : {f l b : Bool} → f ≡ fits every_table m → l ≡ long → b ≡ (f && l) → not b ≡ true → fit ≡ false
-  fit_not q r p n = sym (p ∙ (λ i. q i && r i)) ∙ not-true _ n
+  pub no_fit : {f : Bool} → f ≡ fits every_table m → f ≡ false → fit ≡ false
+  no_fit q n = ap (λ f. f && long) (sym q ∙ n)
 
-  pub fit_so : {f l b : Bool} → f ≡ fits every_table m → l ≡ long → b ≡ (f && l) → not b ≡ false → fit ≡ true
-  fit_so q r p n = sym (p ∙ (λ i. q i && r i)) ∙ not-false _ n
+  pub not_long : {f l : Bool} → f ≡ fits every_table m → l ≡ long → f ≡ true → l ≡ false → fit ≡ false
+  not_long q r x y = λ i. (sym q ∙ x) i && (sym r ∙ y) i
+
+  pub fit_so : {f l : Bool} → f ≡ fits every_table m → l ≡ long → f ≡ true → l ≡ true → fit ≡ true
+  fit_so q r x y = all (sym q ∙ x) (sym r ∙ y)
 
   rebuild_refusal : {a b : Bool} → fits every_table m ≡ a → long ≡ b
       → refusal (read m) call ≡ (test (not a) wrong_shape 0 ⨾ test (not b) wrong_shape 0 ⨾ with_rebuilt_keys given (rows (read m) [] [] 0 (rows_of is ls)))
@@ -214,8 +218,8 @@ module _ (m : Memory) (is ls bs : List ℕ) where
       (l ∙ ap (λ x. x * width) (sym n))
       ∙ ap (λ x. test (ltb k x) key_too_long k) n
 
-  module _ (e : fit ≡ true) (v : Wrong) (c : v ≡ refused_row m.ids m.slots is ls) (k : ℕ) (l : k ≡ first_long)
-      (w : Wrong) (d : wrong_verdict w ≡ earlier (λ n. true) (wrong_verdict v) (test (ltb k (length is)) key_too_long k)) where
+  module _ (e : fit ≡ true) (v : Result ⊤ Refusal) (c : v ≡ refused_row m.ids m.slots is ls) (k : ℕ) (l : k ≡ first_long)
+      (w : Result ⊤ Refusal) (d : wrong_verdict w ≡ earlier (λ n. true) (wrong_verdict v) (test (ltb k (length is)) key_too_long k)) where
     verdict : refusal (read m) call ≡ wrong_verdict w
     unfolding test ◌⨾◌ read
     verdict =
@@ -225,17 +229,17 @@ module _ (m : Memory) (is ls bs : List ℕ) where
         let t = keys_told r.carries k l in
         rebuild_refusal b.0 b.1 ∙ (λ i. earlier (λ n. true) (o i) (t i)) ∙ sym d
 
-    pub rebuild_refused : (w.number ≡ 0 → ⊥) → (refused w.number w.row ≡ answer (read m) call) × (m ≡ memory_after m call)
+    pub rebuild_refused : {r : Refusal} → w ≡ Err r → (refused r.kind r.index ≡ answer (read m) call) × (m ≡ memory_after m call)
     unfolding answer memory_after
-    rebuild_refused n =
-        let r : refusal (read m) call ≡ refuse w.number w.row = verdict ∙ ap (λ b. cond b ok (refuse w.number w.row)) (ne_eqb w.number 0 n) in
+    rebuild_refused q =
+        let r = verdict ∙ ap wrong_verdict q in
         (ap (λ v. answer_by v (grant (read m) call)) (sym r), ap (λ v. unless v m (memory_effect m call)) (sym r))
 
-    pub rebuild_granted : {t₁ t₂ t₃ t₄ t₅ t₆ t₇ : List ℕ} → w.number ≡ 0 → Written m is ls bs t₁ t₂ t₃ t₄ t₅ t₆ t₇
+    pub rebuild_granted : {t₁ t₂ t₃ t₄ t₅ t₆ t₇ : List ℕ} {o : ⊤} → w ≡ Ok o → Written m is ls bs t₁ t₂ t₃ t₄ t₅ t₆ t₇
         → (granted done ≡ answer (read m) call) × (carrying (memory_of m.ids m.slots t₁ t₂ t₃ t₄ t₅ t₆) t₇ ≡ memory_after m call)
     unfolding answer memory_after grant memory_effect
-    rebuild_granted {t₁} {t₂} {t₃} {t₄} {t₅} {t₆} {t₇} n t =
-        let r : refusal (read m) call ≡ ok = verdict ∙ ap (λ b. cond b ok (refuse w.number w.row)) (eq-eqb w.number 0 n) in
+    rebuild_granted {t₁} {t₂} {t₃} {t₄} {t₅} {t₆} {t₇} q t =
+        let r : refusal (read m) call ≡ ok = verdict ∙ ap wrong_verdict q in
         let s = fit_rows e in (
           ap (λ v. answer_by v done) (sym r),
           written m is ls bs t₁ t₂ t₃ t₄ t₅ t₆ t₇ s.shape s.long_is t ∙ ap (λ v. unless v m (rebuilt_memory m is ls bs)) (sym r),

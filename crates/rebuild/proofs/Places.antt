@@ -6,14 +6,16 @@ use Prim.Native.Nat.{ℕ, ◌+◌, ◌*◌, ◌/◌, ◌%◌, ◌≤◌, ◌<◌
 use native.Mathlib.Nat.{mul-le-mul_right}
 use native.Mathlib.Omega.{arith}
 use lib.ListN.{length, length-set}
-use Rattle.address.specs.Address.{unit, is_location, unpacked, slabs}
+use Rattle.address.specs.Address.{bad_slots, unit, is_location, unpacked, slabs}
 use Rattle.address.specs.declared.SlabAddress.{SlabAddress}
 use Rattle.address.proofs.Laws.{slots_range, unpacked_at}
 use Rattle.model.specs.Memory.{put_word, used_words, word_at}
-use Rattle.model.specs.Tables.{slot_place}
-use Rattle.rebuild_rows.specs.Checks.{is_at}
-use Rattle.rebuild_rows.proofs.Turns.{is_at_unpacked}
-use Rattle.std.specs.Prelude.{Ok, Some}
+use Rattle.model.specs.Tables.{slot_place, write}
+use Rattle.model.proofs.Writes.{write_none}
+use Rattle.tables.proofs.LawsEntries.{else_is}
+use Rattle.refusal.specs.declared.Refusal.{Refusal}
+use Rattle.rebuild_rows.proofs.Turns.{is_at, is_at_unpacked}
+use Rattle.std.specs.Prelude.{Result, Ok, Option, Some}
 
 pub record Place (slots location : ℕ) (a : SlabAddress) : Type 0 where
   pub is : is_location slots location ≡ true
@@ -47,3 +49,11 @@ length_used slots l g = go (is_location slots l)
     go : (b : Bool) → length (cond b (put_word g used_words (l / unit) 1) g) ≡ length g
     go true = length-set g (word_at used_words (l / unit)) 1
     go false = refl
+
+-- a number that is no location writes nothing
+pub none_written : (slots l id : ℕ) (marks owners g : List ℕ) (u : Result (Option SlabAddress) Refusal) → bad_slots slots ≡ false → u ≡ unpacked slots l
+    → ((a : SlabAddress) → u ≡ Ok (Some a) → ⊥)
+    → (marks ≡ write slots l 1 marks) × (owners ≡ write slots l id owners) × (g ≡ cond (is_location slots l) (put_word g used_words (l / unit) 1) g)
+none_written slots l id marks owners g u good q none =
+    let e = sym (is_at_unpacked slots l good) ∙ ap is_at (sym q) ∙ else_is is_at false refl (λ r. refl) u none in
+    (sym (write_none slots l 1 marks e), sym (write_none slots l id owners e), sym (ap (λ b. cond b (put_word g used_words (l / unit) 1) g) e))

@@ -12,24 +12,14 @@ use crate::clear;
 use address::SlabAddress;
 use marks::HELD;
 
-// The used word of the ids: 1 where there is a row.
-fn any(rows: usize) -> u64
-    ensures { result ≡ min 1 rows }
-{
-    if rows == 0 { 0 } else { 1 }
-}
-
 // The rows' ids are held, and have their locations.
 fn hold_ids(id_marks: &mut [u8], locations: &mut [u64], ids: &[u64], row_locations: &[u64])
-    requires { length row_locations.now ≡ length ids.now }
     ensures { (id_marks.new ≡ held_by (rows_of ids.now row_locations.now) id_marks.old)
         × (locations.new ≡ located_by (rows_of ids.now row_locations.now) locations.old) }
 {
-    let mut i: usize = 0;
-    while i < ids.len() {
-        id_allocator::put(id_marks, ids[i] as usize, HELD);
-        tables::put(locations, ids[i] as usize, 0, row_locations[i]);
-        i += 1;
+    for (id, location) in ids.iter().zip(row_locations) {
+        id_allocator::put(id_marks, *id as usize, HELD);
+        tables::put(locations, *id as usize, 0, *location);
     }
 }
 
@@ -68,17 +58,15 @@ fn hold_slots(
     ids: &[u64],
     row_locations: &[u64],
 )
-    requires { (bad_slots slots ≡ false) × (length row_locations.now ≡ length ids.now) }
+    requires { bad_slots slots ≡ false }
     ensures { (slot_marks.new
         ≡ write_all slots (locations_of (rows_of ids.now row_locations.now)) 1 slot_marks.old)
         × (owners.new ≡ owned_by slots (rows_of ids.now row_locations.now) owners.old)
         × (tallies.new
         ≡ use_slots slots tallies.old (locations_of (rows_of ids.now row_locations.now))) }
 {
-    let mut i: usize = 0;
-    while i < ids.len() {
-        hold_slot(slots, slot_marks, owners, tallies, ids[i], row_locations[i]);
-        i += 1;
+    for (id, location) in ids.iter().zip(row_locations) {
+        hold_slot(slots, slot_marks, owners, tallies, *id, *location);
     }
 }
 
@@ -119,7 +107,7 @@ pub(crate) fn write(
     clear::all(
         id_marks, locations, slot_marks, owners, batch, tallies, carried,
     );
-    tables::put(tallies, tables::USED, 0, any(ids.len()));
+    tables::put(tallies, tables::USED, 0, ids.len().min(1) as u64);
     hold_ids(id_marks, locations, ids, row_locations);
     hold_slots(slots, slot_marks, owners, tallies, ids, row_locations);
     keys::put_at(carried, ids, row_carried);

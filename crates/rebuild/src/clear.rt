@@ -18,11 +18,11 @@ pub(crate) fn all(
         × (tallies.new ≡ replicate (length tallies.old) 0)
         × (carried.new ≡ replicate (length carried.old) 0) }
 {
-    tables::clear_marks(id_marks);
-    tables::clear_words(locations);
-    tables::clear_marks(slot_marks);
-    tables::clear_words(owners);
-    tables::clear_words(batch);
-    tables::clear_words(tallies);
-    tables::clear_marks(carried);
+    id_marks.fill(0);
+    locations.fill(0);
+    slot_marks.fill(0);
+    owners.fill(0);
+    batch.fill(0);
+    tallies.fill(0);
+    carried.fill(0);
 }

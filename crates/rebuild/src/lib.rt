@@ -20,7 +20,6 @@ ghost use Rattle.model.specs.Lent.{lent_to, answered, leaves};
 ghost use Rattle.model.specs.Verdict.{test, earlier};
 ghost use Rattle.rebuild_rows.specs.Checks.{wrong_verdict};
 
-use rebuild_rows::Wrong;
 use refusal::{Kind, Refusal};
 use tables::Capacities;
 
@@ -86,27 +85,20 @@ pub fn fresh(
 fn rows_fit(ids: usize, locations: usize, carried: usize) -> bool
     ensures { result ≡ (eqb locations ids && eqb carried (ids * width)) }
 {
-    tables::both(locations == ids, tables::carries(ids, carried))
+    locations == ids && tables::carries(ids, carried)
 }
 
 // The first row that is refused, where `long` is the first whose key is too long: of one row's refusals that of the key comes last.
-fn with_keys(wrong: Wrong, long: usize, rows: usize) -> Wrong
-    ensures { wrong_verdict result ≡ earlier (λ n. true) (wrong_verdict wrong) (test (ltb long rows) key_too_long long) }
+fn with_keys(said: Result<(), Refusal>, long: usize, rows: usize) -> Result<(), Refusal>
+    ensures { wrong_verdict result ≡ earlier (λ n. true) (wrong_verdict said) (test (ltb long rows) key_too_long long) }
 {
     if rows <= long {
-        return wrong;
+        return said;
     }
-    let keyed = Wrong {
-        row: long,
-        kind: Kind::KeyTooLong,
-    };
-    if wrong.number == 0 {
-        return keyed;
+    match said {
+        Err(refusal) if refusal.index <= long => said,
+        _ => Err(Refusal::at(Kind::KeyTooLong, long)),
     }
-    if long < wrong.row {
-        return keyed;
-    }
-    wrong
 }
 
 // A store that holds the rows' ids and slots, and nothing else.
@@ -162,21 +154,14 @@ pub fn rebuild(
         tallies.len(),
         carried.len(),
     );
-    if !tables::both(
-        fit,
-        rows_fit(ids.len(), row_locations.len(), row_carried.len()),
-    ) {
+    if !fit || !rows_fit(ids.len(), row_locations.len(), row_carried.len()) {
         return Err(Refusal::of(Kind::WrongShape));
     }
     let first = rebuild_rows::first_refused(caps, ids, row_locations);
     let long = keys::first_long_row(ids.len(), row_carried);
-    let wrong = with_keys(first, long, ids.len());
-    if wrong.number != 0 {
-        return Err(Refusal::at(wrong.number, wrong.row));
-    }
-    let slots = caps.slots;
+    with_keys(first, long, ids.len())?;
     apply::write(
-        slots,
+        caps.slots,
         id_marks,
         locations,
         slot_marks,

@@ -1,6 +1,7 @@
 -- Laws of the passes over rows: one row more, and the end. Assumes nothing.
 use mathlib.Core.Path.{◌≡◌, refl, ap, sym, ◌∙◌}
 use mathlib.Core.Bool.{Bool, true, false, cond}
+use mathlib.Core.Logic.{◌⊎◌, inl, inr}
 use mathlib.Core.List.{List, [], ◌∷◌}
 use Prim.Native.Nat.{ℕ, suc, ◌+◌, ◌-◌, ◌/◌, ◌%◌, ◌<◌, ◌≤◌}
 use native.Mathlib.Numerals.{add-one}
@@ -8,15 +9,24 @@ use native.Mathlib.Omega.{arith}
 use lib.Dec.{eqb}
 use lib.ListN.{length, get_or, set, take, drop, replicate, drop_of_length-le, length-set}
 use lib.Seq.{drop-cons}
-use borrow.Author.Tests.{eqb-true, eq-eqb, ne_eqb}
+use borrow.Author.Tests.{eqb-true}
 use Rattle.refusal.specs.Refusals.{refusal, out_of_range}
 use Rattle.address.specs.Address.{bad_slots, unit, is_location, unpacked}
 use Rattle.model.specs.Store.{Row}
 use Rattle.model.specs.Rebuild.{rows_of}
-use Rattle.rebuild_rows.specs.Checks.{wrong, is_at, wrong_in, first_wrong, groups, group_of, bit_of, with_bit, marked, repeats_at, marked_by, repeat_in, repeats_from}
-use Rattle.std.specs.Prelude.{Ok, Err, Some, None}
+use Rattle.rebuild_rows.specs.Checks.{wrong_in, wrong_or, first_wrong, groups, group_of, bit_of, with_bit, marked, repeats_at, marked_by, repeat_in, repeats_from}
+use Rattle.refusal.specs.declared.Refusal.{Refusal}
+use Rattle.refusal.specs.declared.Kind.{Kind}
+use Rattle.address.specs.declared.SlabAddress.{SlabAddress}
+use Rattle.std.specs.Prelude.{Result, Ok, Err, Option, Some, None, ⊤}
 
 -- ---- unpacking tells locations
+
+-- whether there is an address
+abbrev pub is_at : Result (Option SlabAddress) Refusal → Bool
+is_at (Ok (Some a)) = true
+is_at (Ok None) = false
+is_at (Err r) = false
 
 pub is_at_unpacked : (slots l : ℕ) → bad_slots slots ≡ false → is_at (unpacked slots l) ≡ is_location slots l
 unfolding unpacked
@@ -28,39 +38,33 @@ is_at_unpacked slots l b = rw b (go (eqb l 0) refl (is_location slots l) refl)
     go false e true f = refl
     go false e false f = refl
 
--- ---- rows that are left
+-- ---- rows
 
--- from row i on
-abbrev pub rest : List ℕ → List ℕ → ℕ → List Row
-rest is ls i = rows_of (drop i is) (drop i ls)
+-- past the last row
+pub rows_end : (is ls : List ℕ) → (length is ≡ 0) ⊎ (length ls ≡ 0) → rows_of is ls ≡ []
+rows_end [] ls e = refl
+rows_end (i ∷ is) [] e = refl
+rows_end (i ∷ is) (l ∷ ls) (inl e) = absurd (omega arith)
+rows_end (i ∷ is) (l ∷ ls) (inr e) = absurd (omega arith)
 
-pub rest_turn : (is ls : List ℕ) (i : ℕ) → i < length is → length ls ≡ length is → rest is ls i ≡ (get_or is i 0, get_or ls i 0) ∷ rest is ls (i + 1)
-rest_turn is ls i h e =
-    (λ j. rows_of (drop-cons is i 0 h j) (drop-cons ls i 0 (omega arith) j))
-    ∙ ap (λ n. (get_or is i 0, get_or ls i 0) ∷ rows_of (drop n is) (drop n ls)) (sym (add-one i))
+module _ (ids slots : ℕ) (seen : List ℕ) (i : ℕ) (r : Row) (rs : List Row) where
+  -- what is said where the first of them is wrong in a way, or in none
+  abbrev told : Option Kind → Result ⊤ Refusal
+  told o = wrong_or o i (first_wrong ids slots (set seen r.0 1) (i + 1) rs)
 
-pub rest_end : (is ls : List ℕ) (i : ℕ) → length is ≤ i → rest is ls i ≡ []
-rest_end is ls i h = ap (λ x. rows_of x (drop i ls)) (drop_of_length-le is h)
-
--- ---- first_wrong
-
-module _ (ids slots : ℕ) (seen is ls : List ℕ) (i : ℕ) (h : i < length is) (e : length ls ≡ length is) where
-  first_wrong_turn : first_wrong ids slots seen i (rest is ls i)
-      ≡ cond (eqb (wrong_in ids slots seen (get_or is i 0) (get_or ls i 0)) 0) (first_wrong ids slots (set seen (get_or is i 0) 1) (i + 1) (rest is ls (i + 1)))
-      (wrong i (wrong_in ids slots seen (get_or is i 0) (get_or ls i 0)))
+  pub first_wrong_here : {o : Option Kind} {k : Kind} → o ≡ wrong_in ids slots seen r.0 r.1 → o ≡ Some k
+      → first_wrong ids slots seen i (r ∷ rs) ≡ Err (refusal k i)
   unfolding first_wrong
-  first_wrong_turn = ap (first_wrong ids slots seen i) (rest_turn is ls i h e)
+  first_wrong_here q z = ap told (sym q ∙ z)
 
-  pub first_wrong_here : {n : ℕ} → n ≡ wrong_in ids slots seen (get_or is i 0) (get_or ls i 0) → (n ≡ 0 → ⊥) → first_wrong ids slots seen i (rest is ls i) ≡ wrong i n
-  first_wrong_here {n} q z = first_wrong_turn ∙ rw (← q, ne_eqb n 0 z)
+  pub first_wrong_next : {o : Option Kind} → o ≡ wrong_in ids slots seen r.0 r.1 → o ≡ None
+      → first_wrong ids slots seen i (r ∷ rs) ≡ first_wrong ids slots (set seen r.0 1) (i + 1) rs
+  unfolding first_wrong
+  first_wrong_next q z = ap told (sym q ∙ z)
 
-  pub first_wrong_next : {n : ℕ} → n ≡ wrong_in ids slots seen (get_or is i 0) (get_or ls i 0) → n ≡ 0
-      → first_wrong ids slots seen i (rest is ls i) ≡ first_wrong ids slots (set seen (get_or is i 0) 1) (i + 1) (rest is ls (i + 1))
-  first_wrong_next {n} q z = first_wrong_turn ∙ rw (← q, eq-eqb n 0 z)
-
-pub first_wrong_end : (ids slots : ℕ) (seen is ls : List ℕ) (i : ℕ) → length is ≤ i → first_wrong ids slots seen i (rest is ls i) ≡ wrong i 0
+pub first_wrong_end : (ids slots : ℕ) (seen : List ℕ) (i : ℕ) → first_wrong ids slots seen i [] ≡ Ok tt
 unfolding first_wrong
-first_wrong_end ids slots seen is ls i h = ap (first_wrong ids slots seen i) (rest_end is ls i h)
+first_wrong_end ids slots seen i = refl
 
 -- ---- repeat_in
 

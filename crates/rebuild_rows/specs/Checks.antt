@@ -1,39 +1,38 @@
 -- The rules of rebuild rows as the code goes through them. Nothing here has to be believed: proofs/Checked.antt shows that together they
 -- are the model's `rows`. Assumes nothing.
-use Rattle.std.specs.Prelude.{Bool, true, false, not, cond, ◌&&◌, List, [], ◌∷◌, ℕ, zero, suc, ◌+◌, ◌/◌, ◌%◌, ◌^◌, ltb, eqb, length, get_or, set, take, replicate, Result, Ok, Err, Option, Some, None}
+use Rattle.std.specs.Prelude.{Bool, not, cond, ◌&&◌, List, [], ◌∷◌, ℕ, zero, suc, ◌+◌, ◌/◌, ◌%◌, ◌^◌, ltb, eqb, length, get_or, set, take, replicate, Result, Ok, Err, Option, Some, None, ⊤}
 use Rattle.std.specs.Int.Bits.{bit_or}
-use Rattle.refusal.specs.Refusals.{wrong_shape, out_of_range, no_such_id, repeated_id, repeated_location}
+use Rattle.refusal.specs.Refusals.{refusal, wrong_shape, out_of_range, no_such_id, repeated_id, repeated_location}
 use Rattle.address.specs.Address.{bad_slots, unit, is_location}
 use Rattle.model.specs.Store.{Row}
 use Rattle.model.specs.Rebuild.{rows_of}
 use Rattle.model.specs.Verdict.{Verdict, ok, refuse}
-use Rattle.rebuild_rows.specs.declared.Wrong.{Wrong}
+use Rattle.refusal.specs.declared.Kind.{Kind}
 use Rattle.refusal.specs.declared.Refusal.{Refusal}
-use Rattle.address.specs.declared.SlabAddress.{SlabAddress}
-
-abbrev pub wrong : ℕ → ℕ → Wrong
-wrong row number = record { row = row; number = number }
-
-abbrev pub is_at : Result (Option SlabAddress) Refusal → Bool
-is_at (Ok (Some a)) = true
-is_at (Ok None) = false
-is_at (Err r) = false
 
 -- ---- what a row says by itself, and repeated ids
 
--- the number of a row's first wrong but repeated locations, 0 for none; `seen` marks the ids before it
-unfoldable pub wrong_in : ℕ → ℕ → List ℕ → ℕ → ℕ → ℕ
+-- what is wrong with a row but for repeated locations; `seen` marks the ids before it
+unfoldable pub wrong_in : ℕ → ℕ → List ℕ → ℕ → ℕ → Option Kind
 wrong_in ids slots seen id location =
-    cond (not (ltb 0 id && ltb id ids)) no_such_id
-    (cond (not (eqb (get_or seen id 0) 0)) repeated_id
-    (cond (is_location slots location) 0 out_of_range))
+    cond (not (ltb 0 id && ltb id ids)) (Some no_such_id)
+    (cond (not (eqb (get_or seen id 0) 0)) (Some repeated_id)
+    (cond (is_location slots location) None (Some out_of_range)))
 
--- the first row with a wrong, and its number; past the last, and 0, where there is none
-unfoldable pub first_wrong : ℕ → ℕ → List ℕ → ℕ → List Row → Wrong
-first_wrong ids slots seen i [] = wrong i 0
-first_wrong ids slots seen i (r ∷ rs) =
-    cond (eqb (wrong_in ids slots seen r.0 r.1) 0) (first_wrong ids slots (set seen r.0 1) (i + 1) rs)
-    (wrong i (wrong_in ids slots seen r.0 r.1))
+-- row i where it is wrong, else what is said of the rows after it
+abbrev pub wrong_or : Option Kind → ℕ → Result ⊤ Refusal → Result ⊤ Refusal
+wrong_or (Some kind) i after = Err (refusal kind i)
+wrong_or None i after = after
+
+-- the first row that is wrong
+unfoldable pub first_wrong : ℕ → ℕ → List ℕ → ℕ → List Row → Result ⊤ Refusal
+first_wrong ids slots seen i [] = Ok tt
+first_wrong ids slots seen i (r ∷ rs) = wrong_or (wrong_in ids slots seen r.0 r.1) i (first_wrong ids slots (set seen r.0 1) (i + 1) rs)
+
+-- how many of n rows come before the one that is refused; all of them where none is
+abbrev pub rows_before : ℕ → Result ⊤ Refusal → ℕ
+rows_before n (Ok done) = n
+rows_before n (Err r) = r.index
 
 -- ---- repeated locations
 
@@ -79,21 +78,22 @@ unfoldable pub repeats_from : ℕ → List ℕ → ℕ → ℕ → ℕ → ℕ
 repeats_from slots ls zero g end = end
 repeats_from slots ls (suc n) g end = repeats_from slots ls n (g + 1) (repeat_in g (replicate slots 0) 0 (take end ls))
 
--- ---- both: a repeated location before the first wrong row decides
+-- ---- both: of n rows, a repeated location before the first wrong row decides
 
-unfoldable pub decided : Wrong → ℕ → Wrong
-decided w repeat = cond (ltb repeat w.row) (wrong repeat repeated_location) w
+unfoldable pub decided : ℕ → Result ⊤ Refusal → ℕ → Result ⊤ Refusal
+decided n w repeat = cond (ltb repeat (rows_before n w)) (Err (refusal repeated_location repeat)) w
 
-abbrev pub wrong_verdict : Wrong → Verdict
-wrong_verdict w = cond (eqb w.number 0) ok (refuse w.number w.row)
+abbrev pub wrong_verdict : Result ⊤ Refusal → Verdict
+wrong_verdict (Ok done) = ok
+wrong_verdict (Err r) = refuse r.kind r.index
 
-abbrev pub decided_by : ℕ → List ℕ → Wrong → Wrong
-decided_by slots ls w = decided w (repeats_from slots (take w.row ls) groups 0 (length (take w.row ls)))
+abbrev pub decided_by : ℕ → List ℕ → ℕ → Result ⊤ Refusal → Result ⊤ Refusal
+decided_by slots ls n w = decided n w (repeats_from slots (take (rows_before n w) ls) groups 0 (length (take (rows_before n w) ls)))
 
 -- of all rows
-unfoldable pub checked : ℕ → ℕ → List ℕ → List ℕ → Wrong
-checked ids slots is ls = decided_by slots ls (first_wrong ids slots (replicate 65536 0) 0 (rows_of is ls))
+unfoldable pub checked : ℕ → ℕ → List ℕ → List ℕ → Result ⊤ Refusal
+checked ids slots is ls = decided_by slots ls (length is) (first_wrong ids slots (replicate 65536 0) 0 (rows_of is ls))
 
 -- the same, where there are slots and as many locations as ids
-unfoldable pub refused_row : ℕ → ℕ → List ℕ → List ℕ → Wrong
-refused_row ids slots is ls = cond (not (bad_slots slots) && eqb (length ls) (length is)) (checked ids slots is ls) (wrong 0 wrong_shape)
+unfoldable pub refused_row : ℕ → ℕ → List ℕ → List ℕ → Result ⊤ Refusal
+refused_row ids slots is ls = cond (not (bad_slots slots) && eqb (length ls) (length is)) (checked ids slots is ls) (Err (refusal wrong_shape 0))

@@ -1,6 +1,6 @@
 -- That an outcome tells which answer it is: two answers of one outcome are one. Each crate has the law of its own answers, named after their
 -- outcome, with -one. It is enough to read the answer back. Assumes nothing.
-use mathlib.Core.List.{List, [], ◌∷◌}
+use mathlib.Core.List.{[], ◌∷◌}
 use mathlib.Core.Path.{◌≡◌, refl, sym, ap, ◌∙◌}
 use Prim.Native.Nat.{ℕ, ◌-◌}
 use lib.ListN.{get_or}

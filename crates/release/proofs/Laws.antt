@@ -63,9 +63,6 @@ released_words_lem g counted unhinted after a w hint freed ms h p f c u e =
     ∙ waiting_words_lem g a w ms h
 
 -- ---- the slabs
-pub start_next : (cap k start : ℕ) → start ≡ k * cap → start + cap ≡ (k + 1) * cap
-start_next cap k start e = rw (add-one k) (omega (arith, e, suc-mul k cap))
-
 pub start_within : (cap k start : ℕ) → start ≡ k * cap → k < slabs → start + cap ≤ slabs * cap
 start_within cap k start e h = omega (arith, mul-le-mul_right cap h, suc-mul k cap)
 

@@ -81,13 +81,10 @@ fn release_slabs(slots: usize, slot_marks: &mut [u8], tallies: &mut [u64])
     ensures { ◌≡◌ {A = Slots} (record { marks = slot_marks.new; words = tallies.new })
         (release_slabs slots slabs 0 (record { marks = slot_marks.old; words = tallies.old })) }
 {
-    let mut slab: usize = 0;
-    let mut start: usize = 0;
-    while slab < SlabAddress::SLABS {
+    for slab in 0..SlabAddress::SLABS {
+        let start = slab * slots;
         let end = start + slots;
-        slab += 1;
-        release_allocator(&mut slot_marks[start..end], tallies, slab);
-        start = end;
+        release_allocator(&mut slot_marks[start..end], tallies, slab + 1);
     }
 }
 
@@ -116,12 +113,8 @@ pub fn release(
         batch.now
         tallies.old }
 {
-    match granted(caps, id_marks, slot_marks, batch, tallies) {
-        Ok(()) => {
-            release_allocator(id_marks, tallies, IDS);
-            release_slabs(caps.slots, slot_marks, tallies);
-            Ok(())
-        }
-        Err(refusal) => Err(refusal),
-    }
+    granted(caps, id_marks, slot_marks, batch, tallies)?;
+    release_allocator(id_marks, tallies, IDS);
+    release_slabs(caps.slots, slot_marks, tallies);
+    Ok(())
 }

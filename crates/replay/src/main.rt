@@ -5,16 +5,28 @@
 // oracle/replay_data makes data/ of oracle/answers/*.txt, and stdout by counting there. The words of a line are in oracle/answers/README.md.
 #![tactic(auto)]
 
-mod calls;
+mod kinds;
 mod numbers;
 mod said;
 mod slots;
 mod snapshots;
 
+use replay_words::file;
+use replay_words::file::Judge;
+use replay_words::line::Line;
 use std::io;
 
+// The single calls.
+struct Calls;
+
+impl Judge for Calls {
+    fn agrees(&mut self, line: Line) -> bool {
+        kinds::agrees(line)
+    }
+}
+
 fn main(rt: HostRuntime) -> io::Result<()> {
-    calls::file(&rt, b"leaves.words")?;
-    calls::file(&rt, b"cutoffs.words")?;
-    calls::file(&rt, b"snapshots.words")
+    file::replay(&rt, b"leaves.words", &mut Calls)?;
+    file::replay(&rt, b"cutoffs.words", &mut Calls)?;
+    file::replay(&rt, b"snapshots.words", &mut Calls)
 }

@@ -1,6 +1,8 @@
 // The bytes that a line speaks of: COUNT of them, and WHERE. Below 65,536 that says a ramp: byte i is WHERE + i × (WHERE / 256), modulo 256.
 // Else they stand in the line itself, from WHERE less 65,536 on.
-ghost use Rattle.std.specs.Prelude.{◌≡◌, length};
+ghost use Rattle.std.specs.Prelude.{◌≡◌, ◌≤◌, length};
+
+use replay_words::line::Line;
 
 const IN_THE_LINE: u64 = 65536;
 
@@ -16,67 +18,46 @@ pub fn space() -> [u8; MOST]
 
 // The first n, or all where there are fewer; the last n likewise.
 pub fn first(s: &mut [u8], n: usize) -> &mut [u8] {
-    if n < s.len() { &mut s[..n] } else { s }
+    let n = n.min(s.len());
+    &mut s[..n]
 }
 
 pub fn last(s: &mut [u8], n: usize) -> &mut [u8] {
-    if n < s.len() {
-        let at = s.len() - n;
-        &mut s[at..]
-    } else {
-        s
-    }
-}
-
-pub fn same(a: &[u8], b: &[u8]) -> bool {
-    if a.len() != b.len() {
-        return false;
-    }
-    let mut i = 0;
-    while i < a.len() {
-        if a[i] != b[i] {
-            return false;
-        }
-        i += 1;
-    }
-    true
+    let at = s.len().saturating_sub(n);
+    &mut s[at..]
 }
 
 fn put_ramp(out: &mut [u8], seed: u8, step: u8) {
     let mut b = seed;
-    let mut i = 0;
-    while i < out.len() {
-        out[i] = b;
+    for slot in out {
+        *slot = b;
         b = b.wrapping_add(step);
-        i += 1;
     }
 }
 
-fn byte(s: &[u8], i: usize) -> u8 {
-    if i < s.len() { s[i] } else { 0 }
-}
-
+// Zeros where there are fewer.
 fn put_copy(out: &mut [u8], from: &[u8]) {
-    let mut i = 0;
-    while i < out.len() {
-        out[i] = byte(from, i);
-        i += 1;
-    }
-}
-
-fn from(line: &[u8], at: usize) -> &[u8] {
-    if at < line.len() {
-        &line[at..]
-    } else {
-        &line[..0]
-    }
+    let n = out.len().min(from.len());
+    out[..n].copy_from_slice(&from[..n]);
+    out[n..].fill(0);
 }
 
 // Fills `out`.
-pub fn put(line: &[u8], whence: u64, out: &mut [u8]) {
-    if whence < IN_THE_LINE {
-        put_ramp(out, (whence % 256) as u8, (whence / 256) as u8);
-    } else {
-        put_copy(out, from(line, (whence - IN_THE_LINE) as usize));
+pub fn put(line: Line, whence: u64, out: &mut [u8]) {
+    match whence.checked_sub(IN_THE_LINE) {
+        Some(at) => {
+            let at = line.bytes.len().min(at as usize);
+            put_copy(out, &line.bytes[at..]);
+        }
+        None => put_ramp(out, (whence % 256) as u8, (whence / 256) as u8),
     }
+}
+
+// The bytes of which word k says the COUNT and the next the WHERE, in the first part of the space.
+pub fn bytes<'a>(line: Line, k: usize, space: &'a mut [u8]) -> &'a mut [u8]
+    requires { k ≤ 16 }
+{
+    let s = first(space, line.word(k) as usize);
+    put(line, line.word(k + 1), s);
+    s
 }

@@ -2,7 +2,7 @@
 ghost use Rattle.std.specs.Prelude.{◌≤◌};
 
 use carried::WIDTH;
-use replay_words::{line, rows};
+use replay_words::line::Line;
 
 // The most ids of a store, the most slots of a slab, and the most rows of a call.
 pub const MOST: usize = 512;
@@ -10,62 +10,64 @@ pub const MOST: usize = 512;
 // What is lent for an answer holds some number before the call, and not 0, so that what the call leaves of it can be told.
 pub const ANY: u64 = 165;
 
-pub fn column() -> [u64; MOST] {
-    [ANY; MOST]
+// As many rows as `len` says. No ghost field says that they fit, and so they are cut to MOST: the borrow checker has no rule for a slice of
+// such a struct that is handed out as `&mut`.
+#[derive(Drop)]
+pub struct Column {
+    space: [u64; MOST],
+    len: usize,
 }
 
-// The rows that word 4 says. Where it says more than there can be, the call gets none, and differs.
-pub fn said(line: &[u8]) -> usize
-    ensures { result ≤ 512 }
-{
-    let n = line::word(line, 4);
-    if n <= MOST as u64 { n as usize } else { 0 }
+impl Column {
+    // n rows for an answer.
+    pub fn lent(n: usize) -> Column {
+        Column {
+            space: [ANY; MOST],
+            len: n,
+        }
+    }
+
+    // The n words from word `from` on.
+    pub fn said(line: Line, from: u32, n: usize) -> Column {
+        let mut column = Column::lent(n);
+        line.fill(from, column.rows_mut());
+        column
+    }
+
+    pub fn rows(&self) -> &[u64] {
+        let n = self.len.min(MOST);
+        &self.space[..n]
+    }
+
+    pub fn rows_mut(&mut self) -> &mut [u64] {
+        let n = self.len.min(MOST);
+        &mut self.space[..n]
+    }
 }
 
-// The n words from word `from` on, in a column's first rows.
-pub fn words(line: &[u8], from: u32, n: usize) -> [u64; MOST]
-    requires { n ≤ 512 }
-{
-    let mut column = column();
-    rows::put(line, from, &mut column[0..n]);
-    column
-}
-
-// The byte of update i: 0 frees. Any other stores, so that Stores take 255 and down by their place, and not 1 alone.
-fn kind(is_store: bool, i: usize) -> u8 {
-    if is_store { (255 - i % 255) as u8 } else { 0 }
-}
-
-// Likewise kinds, 1 for a Store and 0 for a Free, as the bytes that an offer takes.
-pub fn are_stores(line: &[u8], from: usize, n: usize) -> [u8; MOST]
+// The kinds of n updates, 1 for a Store and 0 for a Free, as the bytes that an offer takes: 0 frees, and any other stores, so that Stores
+// take 255 and down by their place, and not 1 alone.
+pub fn are_stores(line: Line, from: usize, n: usize) -> [u8; MOST]
     requires { (from ≤ 2048) × (n ≤ 512) }
 {
-    let mut kinds = [0u8; MOST];
-    let mut i = 0;
-    while i < n {
-        kinds[i] = kind(line::word(line, from + i) == 1, i);
-        i += 1;
+    let mut kinds = [0; MOST];
+    for (i, kind) in kinds[..n].iter_mut().enumerate() {
+        if line.word(from + i) == 1 {
+            *kind = (255 - i % 255) as u8;
+        }
     }
     kinds
 }
 
-// Whether a column's first rows are the n words from word `from` on.
-pub fn hold(line: &[u8], from: u32, column: &[u64; MOST], n: usize) -> bool {
-    if MOST < n {
-        return false;
-    }
-    let all: &[u64] = column;
-    rows::hold(line, from, &all[0..n])
-}
-
 // What n rows carry: WIDTH bytes each, from word `from` on; nothing where the line has not so many.
-pub fn carried(line: &[u8], from: usize, n: usize) -> &[u8]
+pub fn carried(line: Line<'_>, from: usize, n: usize) -> &[u8]
     requires { (from ≤ 2048) × (n ≤ 512) }
 {
     let start = 8 * from;
-    let end = start + WIDTH * n;
-    if line.len() < end {
-        return &line[0..0];
-    }
-    &line[start..end]
+    line.bytes.get(start..start + WIDTH * n).unwrap_or(&[])
+}
+
+// The check of what a call wrote, as the lists have it in place of the bytes.
+pub fn check(bytes: &[u8]) -> u64 {
+    exports::wentuhoro_crc32(bytes) as u64
 }

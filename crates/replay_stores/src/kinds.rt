@@ -1,52 +1,92 @@
-// What a line is.
-pub const STORE: u64 = 1;
+// What a line is, and which table a peek or a poke is of.
 
-pub const COUNTED: u64 = 2;
+// The number is no kind's, or no table's.
+#[derive(Clone, Copy)]
+pub struct NoKind;
 
-pub const PEEK: u64 = 3;
+#[derive(Clone, Copy)]
+pub enum Table {
+    IdMarks,
+    Locations,
+    SlotMarks,
+    Owners,
+    Batch,
+    Tallies,
+    // Words of the tallies that are read as 0 or 1.
+    Used,
+    // A row of what rows carry.
+    Carried,
+}
 
-pub const FRESH: u64 = 4;
+impl TryFrom<u64> for Table {
+    type Error = NoKind;
 
-pub const NEW_ID: u64 = 5;
+    fn try_from(number: u64) -> Result<Table, NoKind> {
+        match number {
+            0 => Ok(Table::IdMarks),
+            1 => Ok(Table::Locations),
+            2 => Ok(Table::SlotMarks),
+            3 => Ok(Table::Owners),
+            4 => Ok(Table::Batch),
+            5 => Ok(Table::Tallies),
+            6 => Ok(Table::Used),
+            7 => Ok(Table::Carried),
+            _ => Err(NoKind),
+        }
+    }
+}
 
-pub const LOOKUP: u64 = 6;
+#[derive(Clone, Copy)]
+pub enum Kind {
+    // The capacities from this line on.
+    Store,
+    Counted,
+    Peek,
+    Fresh,
+    NewId,
+    Lookup,
+    Offer,
+    Commit,
+    Abandon,
+    Release,
+    Rebuild,
+    Defrag,
+    Counters,
+    Truncation,
+    Report,
+    Poke(Table),
+    SnapshotLength,
+    SnapshotWrite,
+    Page,
+    Reason,
+}
 
-pub const OFFER: u64 = 7;
+impl TryFrom<u64> for Kind {
+    type Error = NoKind;
 
-pub const COMMIT: u64 = 8;
-
-pub const ABANDON: u64 = 9;
-
-pub const RELEASE: u64 = 10;
-
-pub const REBUILD: u64 = 11;
-
-pub const DEFRAG: u64 = 12;
-
-pub const COUNTERS: u64 = 13;
-
-pub const TRUNCATION: u64 = 14;
-
-pub const REPORT: u64 = 15;
-
-pub const POKE_ID_MARKS: u64 = 16;
-
-pub const POKE_LOCATIONS: u64 = 17;
-
-pub const POKE_SLOT_MARKS: u64 = 18;
-
-pub const POKE_OWNERS: u64 = 19;
-
-pub const POKE_BATCH: u64 = 20;
-
-pub const POKE_TALLIES: u64 = 21;
-
-pub const POKE_CARRIED: u64 = 23;
-
-pub const SNAPSHOT_LENGTH: u64 = 24;
-
-pub const SNAPSHOT_WRITE: u64 = 25;
-
-pub const PAGE: u64 = 26;
-
-pub const REASON: u64 = 27;
+    fn try_from(number: u64) -> Result<Kind, NoKind> {
+        match number {
+            1 => Ok(Kind::Store),
+            2 => Ok(Kind::Counted),
+            3 => Ok(Kind::Peek),
+            4 => Ok(Kind::Fresh),
+            5 => Ok(Kind::NewId),
+            6 => Ok(Kind::Lookup),
+            7 => Ok(Kind::Offer),
+            8 => Ok(Kind::Commit),
+            9 => Ok(Kind::Abandon),
+            10 => Ok(Kind::Release),
+            11 => Ok(Kind::Rebuild),
+            12 => Ok(Kind::Defrag),
+            13 => Ok(Kind::Counters),
+            14 => Ok(Kind::Truncation),
+            15 => Ok(Kind::Report),
+            16..=21 | 23 => Ok(Kind::Poke(Table::try_from(number - 16)?)),
+            24 => Ok(Kind::SnapshotLength),
+            25 => Ok(Kind::SnapshotWrite),
+            26 => Ok(Kind::Page),
+            27 => Ok(Kind::Reason),
+            _ => Err(NoKind),
+        }
+    }
+}

@@ -9,18 +9,18 @@
 mod allocators;
 mod batches;
 mod columns;
-mod history;
 mod kinds;
-mod lines;
 mod pages;
 mod pokes;
 mod reads;
 mod reasons;
+mod snapshots;
+mod store;
 
 use std::io;
 
 fn main(rt: HostRuntime) -> io::Result<()> {
-    history::file(&rt, b"stores.words")?;
-    history::file(&rt, b"files.words")?;
-    history::file(&rt, b"tables.words")
+    store::replay(&rt, b"stores.words")?;
+    store::replay(&rt, b"files.words")?;
+    store::replay(&rt, b"tables.words")
 }

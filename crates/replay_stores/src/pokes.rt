@@ -7,105 +7,70 @@
 //
 // Of a row of what rows carry a poke has all bytes in place of VALUE, and a peek the check over them.
 use crate::columns;
+use crate::kinds::{NoKind, Table};
+use crate::store::Tables;
 use marks::{FREE, HELD, PENDING};
-use replay_words::line;
+use replay_words::line::Line;
 
-const ID_MARKS: u64 = 0;
-
-const LOCATIONS: u64 = 1;
-
-const SLOT_MARKS: u64 = 2;
-
-const OWNERS: u64 = 3;
-
-const BATCH: u64 = 4;
-
-const TALLIES: u64 = 5;
-
-// Words of the tallies that are read as 0 or 1.
-const USED: u64 = 6;
-
-// A row of what rows carry.
-const CARRIED: u64 = 7;
-
-pub fn put_mark(marks: &mut [u8], line: &[u8]) -> bool {
-    let at = line::word(line, 3) as usize;
-    let mark = (line::word(line, 4) % 256) as u8;
-    id_allocator::put(marks, at, mark);
-    true
+fn put<T: Copy>(words: &mut [T], at: usize, value: T) {
+    if let Some(word) = words.get_mut(at) {
+        *word = value;
+    }
 }
 
-pub fn put_word(words: &mut [u64], line: &[u8]) -> bool {
-    let at = line::word(line, 3) as usize;
-    tables::put(words, 0, at, line::word(line, 4));
-    true
-}
-
-// The row of what an id or a kept update carries.
-pub fn put_row(carried: &mut [u8], line: &[u8]) -> bool {
-    let at = line::word(line, 3) as usize;
-    carried::put_row(carried, at, columns::carried(line, 4, 1));
-    true
+fn get(words: &[u64], at: usize) -> u64 {
+    words.get(at).copied().unwrap_or(0)
 }
 
 // A mark as it counts: below the hint a 0 is held, and so is a 2 where nothing waits.
 fn as_read(mark: u8, is_below_hint: bool, waiting: u64) -> u8 {
-    if mark == FREE {
-        return if is_below_hint { HELD } else { FREE };
-    }
-    if mark == PENDING && waiting != 0 {
-        return PENDING;
-    }
-    HELD
-}
-
-fn is_mark(marks: &[u8], tallies: &[u64], at: usize, value: u64, line: &[u8]) -> bool {
-    if marks.len() <= at {
-        return false;
-    }
-    let hint = tables::get(tallies, 0, line::word(line, 6) as usize);
-    let waiting = tables::get(tallies, 0, line::word(line, 7) as usize);
-    let number = line::word(line, 8);
-    as_read(marks[at], number < hint, waiting) as u64 == value
-}
-
-fn is_word(words: &[u64], at: usize, value: u64) -> bool {
-    tables::get(words, 0, at) == value
-}
-
-fn is_used(tallies: &[u64], at: usize, value: u64) -> bool {
-    if tables::get(tallies, 0, at) == 0 {
-        value == 0
-    } else {
-        value == 1
+    match mark {
+        FREE if !is_below_hint => FREE,
+        PENDING if waiting != 0 => PENDING,
+        _ => HELD,
     }
 }
 
-fn is_row(carried: &[u8], at: usize, value: u64) -> bool {
-    exports::wentuhoro_crc32(carried::row(carried, at)) as u64 == value
+fn is_mark(marks: &[u8], tallies: &[u64], at: usize, value: u64, line: Line) -> bool {
+    let hint = get(tallies, line.word(6) as usize);
+    let waiting = get(tallies, line.word(7) as usize);
+    let number = line.word(8);
+    match marks.get(at) {
+        Some(mark) => as_read(*mark, number < hint, waiting) as u64 == value,
+        None => false,
+    }
 }
 
-pub fn peek(
-    id_marks: &[u8],
-    locations: &[u64],
-    slot_marks: &[u8],
-    owners: &[u64],
-    batch: &[u64],
-    tallies: &[u64],
-    carried: &[u8],
-    line: &[u8],
-) -> bool {
-    let at = line::word(line, 4) as usize;
-    let value = line::word(line, 5);
-    match line::word(line, 3) {
-        ID_MARKS => is_mark(id_marks, tallies, at, value, line),
-        LOCATIONS => is_word(locations, at, value),
-        SLOT_MARKS => is_mark(slot_marks, tallies, at, value, line),
-        OWNERS => is_word(owners, at, value),
-        BATCH => is_word(batch, at, value),
-        TALLIES => is_word(tallies, at, value),
-        USED => is_used(tallies, at, value),
-        CARRIED => is_row(carried, at, value),
-        _ => false,
+impl Tables<'_> {
+    pub fn poke(&mut self, table: Table, line: Line) {
+        let at = line.word(3) as usize;
+        let value = line.word(4);
+        match table {
+            Table::IdMarks => put(self.id_marks, at, (value % 256) as u8),
+            Table::Locations => put(self.locations, at, value),
+            Table::SlotMarks => put(self.slot_marks, at, (value % 256) as u8),
+            Table::Owners => put(self.owners, at, value),
+            Table::Batch => put(self.batch, at, value),
+            Table::Tallies => put(self.tallies, at, value),
+            // No kind of line pokes it.
+            Table::Used => {}
+            Table::Carried => carried::put_row(self.carried, at, columns::carried(line, 4, 1)),
+        }
+    }
+
+    pub fn peek(&self, line: Line) -> bool {
+        let at = line.word(4) as usize;
+        let value = line.word(5);
+        match Table::try_from(line.word(3)) {
+            Ok(Table::IdMarks) => is_mark(self.id_marks, self.tallies, at, value, line),
+            Ok(Table::Locations) => get(self.locations, at) == value,
+            Ok(Table::SlotMarks) => is_mark(self.slot_marks, self.tallies, at, value, line),
+            Ok(Table::Owners) => get(self.owners, at) == value,
+            Ok(Table::Batch) => get(self.batch, at) == value,
+            Ok(Table::Tallies) => get(self.tallies, at) == value,
+            Ok(Table::Used) => u64::from(get(self.tallies, at) != 0) == value,
+            Ok(Table::Carried) => columns::check(carried::row(self.carried, at)) == value,
+            Err(NoKind) => false,
+        }
     }
 }

@@ -1,31 +1,25 @@
 // Why an object is to move, or is not: of the id in word 11, by the ratio in word 12. The seven values stand before them.
 use crate::columns::ANY;
-use replay_words::{line, ratios, rows};
+use crate::store::Tables;
+use replay_words::line::Line;
+use replay_words::ratios;
 
-pub fn reason(
-    ids: usize,
-    slots: usize,
-    id_marks: &[u8],
-    locations: &[u64],
-    slot_marks: &[u8],
-    owners: &[u64],
-    batch: &[u64],
-    tallies: &[u64],
-    line: &[u8],
-) -> bool {
-    let mut told = [ANY; 7];
-    let status = exports::wentuhoro_reason(
-        ids,
-        slots,
-        id_marks,
-        locations,
-        slot_marks,
-        owners,
-        batch,
-        tallies,
-        line::word(line, 11),
-        ratios::ratio(line::word(line, 12)),
-        &mut told,
-    );
-    line::says(line, status) & rows::hold(line, 4, &told)
+impl Tables<'_> {
+    pub fn reason(&self, line: Line) -> bool {
+        let mut told = [ANY; 7];
+        let status = exports::wentuhoro_reason(
+            self.ids,
+            self.slots,
+            self.id_marks,
+            self.locations,
+            self.slot_marks,
+            self.owners,
+            self.batch,
+            self.tallies,
+            line.word(11),
+            ratios::ratio(line.word(12)),
+            &mut told,
+        );
+        line.says(status, &told)
+    }
 }

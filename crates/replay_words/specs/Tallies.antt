@@ -1,6 +1,6 @@
 -- Calls, answers of the Rust and differences, counted. Assumes nothing.
-use Rattle.std.specs.Prelude.{Bool, cond, not, List, ℕ, ◌+◌, ◌%◌, eqb, ltb}
-use Rattle.replay_words.specs.Lines.{line_word}
+use Rattle.std.specs.Prelude.{Bool, cond, not, List, ℕ, ◌+◌, eqb, ltb}
+use Rattle.replay_words.specs.Lines.{source}
 use Rattle.replay_words.specs.declared.tally.Tally.{Tally}
 
 -- one more, where there is one; no count passes what a word holds
@@ -9,10 +9,6 @@ more n is_more = cond is_more (cond (ltb n 18446744073709551615) (n + 1) n) n
 
 abbrev pub nothing : Tally
 nothing = record { calls = 0; rusts = 0; differences = 0 }
-
--- 0 where the line is no call, 1 where the model gave the answer, 2 where the Rust did
-abbrev pub source : List ℕ → ℕ
-source line = line_word line 2 % 4
 
 abbrev pub tally_with : Tally → List ℕ → Bool → Tally
 tally_with t line agrees =

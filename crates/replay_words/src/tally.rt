@@ -2,8 +2,8 @@
 ghost use Rattle.std.specs.Prelude.{◌≡◌, IfOk};
 ghost use Rattle.replay_words.specs.Tallies.{more, nothing, tally_with};
 
-use crate::line;
-use std::io;
+use crate::line::{Line, Source};
+use std::{fmt, io};
 
 #[derive(Clone, Copy)]
 pub struct Tally {
@@ -18,31 +18,7 @@ const NAMED: u64 = 8;
 fn more(n: u64, is_more: bool) -> u64
     ensures { result ≡ more n is_more }
 {
-    if !is_more {
-        return n;
-    }
-    if n < 18446744073709551615 { n + 1 } else { n }
-}
-
-fn count(rt: &impl Print, n: u64, words: &[u8]) -> io::Result<()> {
-    print!(rt; " {n}")?;
-    rt.write_all(words)
-}
-
-// Names a line that differs, after so many others.
-fn name_difference(
-    rt: &impl Print,
-    name: &[u8],
-    line: &[u8],
-    others: u64,
-    agrees: bool,
-) -> io::Result<()> {
-    if !agrees && others < NAMED {
-        rt.write_all(name)?;
-        rt.write_all(b": line")?;
-        count(rt, line::number(line), b" of its list differs\n")?;
-    }
-    Ok(())
+    n.saturating_add(u64::from(is_more))
 }
 
 impl Tally {
@@ -61,16 +37,20 @@ impl Tally {
         self,
         rt: &impl Print,
         name: &[u8],
-        line: &[u8],
+        line: Line,
         agrees: bool,
     ) -> io::Result<Tally>
-        ensures { IfOk result (λ tally. tally ≡ tally_with self line.now agrees) }
+        ensures { IfOk result (λ tally. tally ≡ tally_with self line.entry.bytes.now agrees) }
     {
-        name_difference(rt, name, line, self.differences, agrees)?;
-        let source = line::source(line);
+        if !agrees && self.differences < NAMED {
+            let number = line.number();
+            rt.write_all(name)?;
+            println!(rt; ": line {number} of its list differs")?;
+        }
+        let source = line.source();
         Ok(Tally {
-            calls: more(self.calls, source != line::NO_CALL),
-            rusts: more(self.rusts, source == line::RUST),
+            calls: more(self.calls, source != Source::NoCall),
+            rusts: more(self.rusts, source == Source::Rust),
             differences: more(self.differences, !agrees),
         })
     }
@@ -80,10 +60,21 @@ impl Tally {
         ensures { IfOk result (λ n. n ≡ self.differences) }
     {
         rt.write_all(name)?;
-        rt.write_all(b":")?;
-        count(rt, self.calls, b" calls compared,")?;
-        count(rt, self.rusts, b" of the answers the Rust's,")?;
-        count(rt, self.differences, b" differences\n")?;
+        println!(rt; ": {self}")?;
         Ok(self.differences)
+    }
+}
+
+impl fmt::Display for Tally {
+    fn fmt<W: fmt::Write>(&self, f: &mut fmt::Formatter<W>) -> fmt::Result {
+        let Tally {
+            calls,
+            rusts,
+            differences,
+        } = *self;
+        write!(
+            f,
+            "{calls} calls compared, {rusts} of the answers the Rust's, {differences} differences"
+        )
     }
 }

@@ -1,11 +1,9 @@
 -- The order of the slab sizes, and the class rule over them, as specs/Table.antt states them: from the laws of `size_of` and `slab_for`. Assumes nothing.
-use mathlib.Core.List.{List, [], ◌++◌, append-nil}
 use mathlib.Core.Path.{◌≡◌, ap, ◌∙◌}
-use Prim.Native.Nat.{ℕ, suc, ◌+◌, ◌≤◌, ◌<◌}
+use Prim.Native.Nat.{ℕ, ◌≤◌, ◌<◌}
 use native.Mathlib.Omega.{arith}
 use lib.Dec.{ltb}
-use lib.ListN.{length, get_or, set, drop, drop_of_length-le}
-use lib.Seq.{sets, sets-eq, drop-cons}
+use lib.ListN.{length, get_or}
 use borrow.Author.Tests.{lt-ltb, le-ltb, ltb-true, ltb-false}
 use Rattle.refusal.specs.Refusals.{refusal, too_large}
 use Rattle.refusal.proofs.Tests.{by_test}
@@ -76,21 +74,3 @@ none_at n e j h =
 
 pub slab_sizes_class : ClassRule slab_sizes
 slab_sizes_class = record { found = found_at; finds = finds_at; none = none_at; refuses = λ n h. past n (none_past n h) }
-
--- ---- the table copied into a lent list, an entry a turn
-pub copied_turn : (l l' : List ℕ) (i : ℕ) → i < slabs → l' ≡ set l i (get_or slab_sizes i 0)
-    → sets l' (i + 1) (drop (i + 1) slab_sizes) ≡ sets l i (drop i slab_sizes)
-copied_turn l l' i h e =
-    let b : i < length slab_sizes = omega (arith, length_slab_sizes) in
-    let p : i + 1 ≡ suc i = omega arith in
-    rw (drop-cons slab_sizes i 0 b) (λ j. sets (e j) (p j) (drop (p j) slab_sizes))
-
-pub copied_end : (l : List ℕ) (i : ℕ) → slabs ≤ i → sets l i (drop i slab_sizes) ≡ l
-copied_end l i h = rw (drop_of_length-le slab_sizes {i = i} (omega (arith, length_slab_sizes)))
-
--- a list of as many entries is then the table
-pub copied_whole : (l : List ℕ) → length l ≡ slabs → sets l 0 slab_sizes ≡ slab_sizes
-copied_whole l e =
-    let n = length_slab_sizes in
-    let d : drop (0 + length slab_sizes) l ≡ [] = drop_of_length-le l {i = 0 + length slab_sizes} (omega (arith, n, e)) in
-    sets-eq slab_sizes l 0 (omega (arith, n, e)) ∙ ap (λ (t : List ℕ). slab_sizes ++ t) d ∙ append-nil slab_sizes

@@ -1,5 +1,5 @@
 -- The outcome of each answer: document 01's number and values. Assumes nothing.
-use Rattle.std.specs.Prelude.{[], ◌∷◌, Result, Ok, Err, ℕ}
+use Rattle.std.specs.Prelude.{[], ◌∷◌, Result, ℕ}
 use Rattle.refusal.specs.Outcomes.{Values, outcome_by}
 use Rattle.refusal.specs.declared.Refusal.{Refusal}
 

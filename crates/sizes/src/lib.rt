@@ -128,14 +128,8 @@ pub fn slab_sizes() -> [u64; SLABS]
 pub fn put_slab_sizes(list: &mut [u64])
     ensures { list.new ≡ cond (eqb (length list.old) slabs) slab_sizes list.old }
 {
-    if list.len() != SLABS {
-        return;
-    }
-    let table = slab_sizes();
-    let mut i: usize = 0;
-    while i < SLABS {
-        list[i] = table[i];
-        i += 1;
+    if list.len() == SLABS {
+        list.copy_from_slice(&slab_sizes());
     }
 }
 

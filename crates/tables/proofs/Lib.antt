@@ -1,4 +1,3 @@
 pub mod Laws
 pub mod LawsEntries
 pub mod LawsSlabs
-pub mod Zeros

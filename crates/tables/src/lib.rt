@@ -10,14 +10,12 @@
 #![tactic(auto)]
 
 mod capacities;
-mod clear;
 mod entries;
 mod shapes;
 mod words;
 
 use address::SlabAddress;
 pub use capacities::Capacities;
-pub use clear::{clear_marks, clear_words};
 pub use entries::{bad_location, held_id, is_owner, slab_marks};
 pub use shapes::{
     all_fit, all_hold, both, carries, defrag_fits, lookup_fits, new_id_fits, reason_fits,

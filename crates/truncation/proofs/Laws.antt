@@ -7,13 +7,14 @@ use Prim.Native.Nat.{ℕ, zero, suc, ◌+◌, ◌-◌, ◌*◌, ◌/◌, ◌<◌
 use native.Mathlib.Nat.{mul-le-mul, div-mul-le_self}
 use native.Mathlib.Omega.{arith}
 use lib.Dec.{leb, ltb}
-use lib.ListN.{length, get_or}
+use lib.ListN.{get_or}
 use lib.Seq.{get_or-drop}
 use borrow.Author.Tests.{leb-true, leb-false, not-true, not-false, lt-ltb, le-ltb, le-leb, lt-leb}
 use Rattle.refusal.specs.Outcomes.{granted, refused}
 use Rattle.refusal.specs.Refusals.{wrong_shape, out_of_range, batch_open, ratio_out_of_range, nothing_to_cut}
+use Rattle.refusal.specs.declared.Kind.{Kind}
 use Rattle.refusal.specs.declared.Refusal.{Refusal}
-use Rattle.refusal.proofs.Tests.{and_true, or_false}
+use Rattle.refusal.proofs.Tests.{clash, and_true, or_false}
 use Rattle.address.specs.Address.{slabs, most_slots}
 use Rattle.sizes.specs.Sizes.{size_of, slab_sizes}
 use Rattle.sizes.proofs.Laws.{all_below_at}
@@ -30,8 +31,9 @@ use Rattle.model.specs.Verdict.{Verdict, ok, refuse, ◌⨾◌, test}
 use Rattle.model.proofs.Sizes.{shape_read, slab_tip_le}
 use Rattle.model.proofs.Granted.{granted_sizes}
 use Rattle.model.proofs.Verdicts.{test_ok, first_ok, then_ok, assoc}
-use Rattle.truncation.specs.Truncations.{truncated_answer}
-use Rattle.std.specs.Prelude.{Result, Ok, Err, Option, Some, None}
+use Rattle.truncation.specs.declared.Cut as T
+use Rattle.truncation.specs.Truncations.{cut_as}
+use Rattle.std.specs.Prelude.{Option, Some, None, is_some}
 
 -- ---- sizes
 size_range : ℕ → Bool
@@ -86,16 +88,12 @@ unfolding cut_at
 cut_at_tip k high t zero e = let z : ◌≡◌ {A = ℕ} 0 1 = cc in omega arith
 cut_at_tip k high t (suc top) e = omega arith
 
--- what a `let .. else` on the answer tells of it
-pub is_cut : (c : Cut) (r : Result (Option Cut) Refusal) (length back : ℕ) → r ≡ Ok (Some (record { length = length; given_back = back })) → truncated_answer r ≡ granted (truncated c) → keeps c ≡ false
-is_cut (cut n b) r length back k e = refl
-is_cut keep r length back k e = let z : ◌≡◌ {A = ℕ} 0 1 = cc in absurd (omega arith)
-
-pub is_kept : (c : Cut) (r : Result (Option Cut) Refusal) → ((length back : ℕ) → r ≡ Ok (Some (record { length = length; given_back = back })) → ⊥) → truncated_answer r ≡ granted (truncated c) → keeps c ≡ true
-is_kept keep r k e = refl
-is_kept (cut n b) (Ok None) k e = let z : ◌≡◌ {A = ℕ} 0 1 = cc in absurd (omega arith)
-is_kept (cut n b) (Ok (Some (record { length = l; given_back = d }))) k e = absurd (k l d refl)
-is_kept (cut n b) (Err r) k e = let z : ◌≡◌ {A = ℕ} 0 1 = cc in absurd (omega arith)
+-- whether there is no cut tells whether it is kept
+pub is_kept : (c : Cut) (r : Option T.Cut) (none : Bool) → is_some r ≡ not none → cut_as r ≡ c → keeps c ≡ none
+is_kept c None true p e = ap keeps (sym e)
+is_kept c None false p e = clash (sym p)
+is_kept c (Some x) true p e = clash p
+is_kept c (Some x) false p e = ap keeps (sym e)
 
 -- ---- the high mark
 raise_word_top : (g : List ℕ) (k tip : ℕ) → (tip ≡ 0 → ⊥) → raise_word g k tip ≡ put_word g high_words k (max (get_word g high_words k) (tip - 1))
@@ -127,9 +125,9 @@ module _ (m : Memory) (k : ℕ) where
 
   -- ---- one test after another: what each answers, once those before it are passed
   module _ (t : ℕ) where
-    pub ask_refused : (r : Refusal) (n : ℕ) → r ≡ record { number = n; index = 0 } → refusal (read m) (truncation k t) ≡ refuse n 0
-        → refused r.number r.index ≡ answer_by (refusal (read m) (truncation k t)) (gave (slab_tip (read m) k))
-    ask_refused r n p e = (λ i. refused (p i).number (p i).index) ∙ sym (ap (λ v. answer_by v (gave (slab_tip (read m) k))) e)
+    pub ask_refused : (r : Refusal) (n : Kind) → r ≡ record { kind = n; index = 0 } → refusal (read m) (truncation k t) ≡ refuse n 0
+        → refused r.kind r.index ≡ answer_by (refusal (read m) (truncation k t)) (gave (slab_tip (read m) k))
+    ask_refused r n p e = (λ i. refused (p i).kind (p i).index) ∙ sym (ap (λ v. answer_by v (gave (slab_tip (read m) k))) e)
 
     pub ask_tip : (tip : ℕ) → tip ≡ slab_tip (read m) k → refusal (read m) (truncation k t) ≡ ok → granted (gave tip) ≡ answer_by (refusal (read m) (truncation k t)) (gave (slab_tip (read m) k))
     ask_tip tip p e = ap (λ x. granted (gave x)) p ∙ sym (ap (λ v. answer_by v (gave (slab_tip (read m) k))) e)
@@ -260,14 +258,14 @@ module _ (m : Memory) (k t tip : ℕ) (a : AskedTip m k t tip) where
       ((λ i. answer_by (r i) done), λ i. unless (r i) m (with_words m (put_word g high_words k (p i))))
 
 -- ---- one that may not
-pub asked_refused : (m : Memory) (k t n i : ℕ) → refused n i ≡ answer_by (refusal (read m) (truncation k t)) (gave (slab_tip (read m) k)) → refusal (read m) (truncation k t) ≡ refuse n i
+pub asked_refused : (m : Memory) (k t : ℕ) (n : Kind) (i : ℕ) → refused n i ≡ answer_by (refusal (read m) (truncation k t)) (gave (slab_tip (read m) k)) → refusal (read m) (truncation k t) ≡ refuse n i
 asked_refused m k t n i e = go (refusal (read m) (truncation k t)) e
   where
     go : (v : Verdict) → refused n i ≡ answer_by v (gave (slab_tip (read m) k)) → v ≡ refuse n i
     go ok e = let z : ◌≡◌ {A = ℕ} 0 1 = cc in absurd (omega arith)
     go (refuse a b) e = let p : a ≡ n = cc in let q : b ≡ i = cc in λ j. refuse (p j) (q j)
 
-module _ (m : Memory) (k t n i : ℕ) (r : refusal (read m) (truncation k t) ≡ refuse n i) where
+module _ (m : Memory) (k t : ℕ) (n : Kind) (i : ℕ) (r : refusal (read m) (truncation k t) ≡ refuse n i) where
   pub truncation_refused : (answer (read m) (truncation k t) ≡ refused n i) × (memory_after m (truncation k t) ≡ m)
   unfolding answer memory_after
   truncation_refused = ((λ j. answer_by (r j) (grant (read m) (truncation k t))), λ j. unless (r j) m (memory_effect m (truncation k t)))

@@ -1,10 +1,13 @@
 -- The outcome of asking for a cut: document 01's number and values. Assumes nothing.
-use Rattle.std.specs.Prelude.{[], ◌∷◌, Result, Ok, Err, Option, Some, None}
-use Rattle.refusal.specs.Outcomes.{Values, granted, refused_as}
+use Rattle.std.specs.Prelude.{List, ℕ, [], ◌∷◌, Result, Option, Some, None}
+use Rattle.refusal.specs.Outcomes.{Values, outcome_by}
 use Rattle.refusal.specs.declared.Refusal.{Refusal}
+use Rattle.truncation.specs.declared.Cut.{Cut}
 
 -- 1, the new length and the bytes given back; three zeros where the file is kept
+abbrev pub truncated_says : Option Cut → List ℕ
+truncated_says None = 0 ∷ 0 ∷ 0 ∷ []
+truncated_says (Some c) = 1 ∷ c.length ∷ c.given_back ∷ []
+
 abbrev pub truncated_outcome : Result (Option Cut) Refusal → Values
-truncated_outcome (Ok None) = granted (0 ∷ 0 ∷ 0 ∷ [])
-truncated_outcome (Ok (Some (record { length = length; given_back = given }))) = granted (1 ∷ length ∷ given ∷ [])
-truncated_outcome (Err r) = refused_as r
+truncated_outcome r = outcome_by truncated_says r

@@ -4,8 +4,8 @@
 //     match truncation::truncation(caps, &slot_marks, &batch, &mut tallies, slab, 80) {
 //         Ok(Some(Cut { length, given_back })) => ..,  // cut the file to this length, which gives so many bytes back; then
 //         //     truncation::cut_done(caps, &slot_marks, &batch, &mut tallies, slab, 80);
-//         Ok(None) => ..,
-//         Err(refusal) => ..,            // 1, 11, 3, 14
+//         Ok(None) => ..,                              // keep it
+//         Err(refusal) => ..,                          // 1, 11, 3, 14
 //     }
 //
 // The high mark is the Rust's `max_live_slot_since_last_truncation`: asking raises it to the slab's top slot, a report sets it there.
@@ -15,16 +15,15 @@ ghost use Rattle.std.specs.Prelude.{◌≡◌, ◌*◌, ◌<◌, ◌≤◌, suc,
 ghost use Rattle.list_parts.specs.Parts.{part};
 ghost use Rattle.marks.specs.Marks.{tip};
 ghost use Rattle.id_allocator.specs.Counted.{hinted};
-ghost use Rattle.refusal.specs.Outcomes.{granted};
 ghost use Rattle.address.specs.Address.{slabs, most_slots};
-ghost use Rattle.model.specs.Store.{truncation, report, gave, truncated, finished_answer};
+ghost use Rattle.model.specs.Store.{truncation, report, gave, finished_answer};
 ghost use Rattle.model.specs.Tables.{slab_tip};
 ghost use Rattle.model.specs.Truncation.{is_target, bytes_to, fill, target_length, new_length, cut_at};
 ghost use Rattle.model.specs.Step.{refusal, answer_by};
 ghost use Rattle.model.specs.Memory.{read, get_word, used_words, hint_words};
 ghost use Rattle.model.specs.Lent.{lent_to, answered, leaves};
 ghost use Rattle.model.specs.MemoryAfter.{raise_word};
-ghost use Rattle.truncation.specs.Truncations.{asked_answer, truncated_answer};
+ghost use Rattle.truncation.specs.Truncations.{cut_as, asked_answer, truncated_answer};
 
 use address::SlabAddress;
 use refusal::{Kind, Refusal};
@@ -47,6 +46,13 @@ fn is_target(t: u64) -> bool
     ensures { result ≡ is_target t }
 {
     tables::both(LEAST_TARGET <= t, t <= MOST_TARGET)
+}
+
+// What a slab's file is cut to, and how many bytes that gives back.
+#[derive(Clone, Copy)]
+pub struct Cut {
+    pub length: u64,
+    pub given_back: u64,
 }
 
 // ---- the lengths
@@ -88,26 +94,28 @@ fn new_length(size: u64, top: u64) -> u64
 }
 
 // What becomes of the slab's file, by its tip and its stored high mark. At tip 0 it is kept.
-fn cut_at(slab: usize, high: u64, t: u64, tip: usize) -> Result<Option<Cut>, Refusal>
+fn cut_at(slab: usize, high: u64, t: u64, tip: usize) -> Option<Cut>
     requires { (slab < slabs) × (high < most_slots) × (tip ≤ most_slots) }
-    ensures { truncated_answer result ≡ granted (truncated (cut_at slab high t tip)) }
+    ensures { cut_as result ≡ cut_at slab high t tip }
 {
     if tip == 0 {
-        return Ok(None);
+        return None;
     }
     let size = sizes::slab_size(slab);
     let top = tip as u64 - 1;
     let high = larger(high, top);
     if !sparse(size, top, high, t) {
-        return Ok(None);
+        return None;
     }
     let before = bytes_to(size, high);
     let length = new_length(size, top);
     if before <= length {
-        return Ok(None);
+        return None;
     }
-    Ok(Some(Cut { length,
-        given_back: before - length, }))
+    Some(Cut {
+        length,
+        given_back: before - length,
+    })
 }
 
 // ---- what is asked
@@ -199,15 +207,11 @@ pub fn truncation(
         batch.now
         tallies.old }
 {
-    match ask(caps, slot_marks, batch, tallies, slab, t) {
-        Ok(tip) => {
-            let slab = slab as usize;
-            let high = tables::get(tallies, tables::HIGH, slab);
-            raise(tallies, slab, tip);
-            cut_at(slab, high, t, tip)
-        }
-        Err(refusal) => Err(refusal),
-    }
+    let tip = ask(caps, slot_marks, batch, tallies, slab, t)?;
+    let slab = slab as usize;
+    let high = tables::get(tallies, tables::HIGH, slab);
+    raise(tallies, slab, tip);
+    Ok(cut_at(slab, high, t, tip))
 }
 
 // A cut was made: the high mark is the top.
@@ -233,16 +237,12 @@ pub fn cut_done(
         batch.now
         tallies.old }
 {
-    match ask(caps, slot_marks, batch, tallies, slab, t) {
-        Ok(tip) => {
-            let slab = slab as usize;
-            let high = tables::get(tallies, tables::HIGH, slab);
-            let Ok(Some(Cut { .. })) = cut_at(slab, high, t, tip) else {
-                return Err(Refusal::of(Kind::NothingToCut));
-            };
-            tables::put(tallies, tables::HIGH, slab, tip as u64 - 1);
-            Ok(())
-        }
-        Err(refusal) => Err(refusal),
+    let tip = ask(caps, slot_marks, batch, tallies, slab, t)?;
+    let slab = slab as usize;
+    let high = tables::get(tallies, tables::HIGH, slab);
+    if cut_at(slab, high, t, tip).is_none() {
+        return Err(Refusal::of(Kind::NothingToCut));
     }
+    tables::put(tallies, tables::HIGH, slab, tip as u64 - 1);
+    Ok(())
 }

@@ -1,21 +1,14 @@
 // CRC-32 of published inputs.
-use crate::say;
 use std::io;
 
 fn check(rt: &impl Print, name: &str, bytes: &[u8]) -> io::Result<()> {
-    say::text(rt, "crc32 ")?;
-    say::text(rt, name)?;
-    say::hex(rt, crc32::hash(bytes))?;
-    say::end(rt)
+    println!(rt; "crc32 {name} {:08x}", crc32::hash(bytes))
 }
 
 // The same input in two pieces.
 fn pieces(rt: &impl Print, name: &str, first: &[u8], second: &[u8]) -> io::Result<()> {
     let register = crc32::update(crc32::update(crc32::START, first), second);
-    say::text(rt, "crc32 ")?;
-    say::text(rt, name)?;
-    say::hex(rt, crc32::finish(register))?;
-    say::end(rt)
+    println!(rt; "crc32 {name} {:08x}", crc32::finish(register))
 }
 
 pub fn run(rt: &impl Print) -> io::Result<()> {
@@ -36,10 +29,8 @@ pub fn run(rt: &impl Print) -> io::Result<()> {
     )?;
     check(rt, "123456789", b"123456789")?;
     check(rt, "fox", b"The quick brown fox jumps over the lazy dog")?;
-    let zeros = [0u8; 32];
-    check(rt, "32-zero-bytes", &zeros)?;
-    let ones = [255u8; 32];
-    check(rt, "32-ff-bytes", &ones)?;
+    check(rt, "32-zero-bytes", &[0; 32])?;
+    check(rt, "32-ff-bytes", &[255; 32])?;
     let ramp = [
         0, 1, 2, 3, 4, 5, 6, 7, 8, 9, 10, 11, 12, 13, 14, 15, 16, 17, 18, 19, 20, 21, 22, 23, 24,
         25, 26, 27, 28, 29, 30, 31,

@@ -7,7 +7,6 @@ mod checks;
 mod cookies;
 mod frames;
 mod say;
-mod space;
 
 use std::io;
 

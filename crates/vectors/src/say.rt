@@ -1,35 +1,26 @@
-// One line for each answer.
+// What the lines are made of.
 use refusal::Refusal;
-use std::io;
+use std::fmt;
 
-pub fn text(rt: &impl Print, words: &str) -> io::Result<()> {
-    rt.print(words)
-}
+// Bytes, two digits each.
+#[derive(Clone, Copy)]
+pub struct Hex<'a>(pub &'a [u8]);
 
-pub fn number(rt: &impl Print, n: u64) -> io::Result<()> {
-    print!(rt; " {n}")
-}
+// The number and the index.
+#[derive(Clone, Copy)]
+pub struct Refused(pub Refusal);
 
-// A check, in eight digits.
-pub fn hex(rt: &impl Print, n: u32) -> io::Result<()> {
-    print!(rt; " {n:08x}")
-}
-
-pub fn refusal(rt: &impl Print, r: Refusal) -> io::Result<()> {
-    text(rt, " refused")?;
-    number(rt, r.number as u64)?;
-    number(rt, r.index as u64)
-}
-
-pub fn end(rt: &impl Print) -> io::Result<()> {
-    println!(rt)
-}
-
-// The bytes, two digits each.
-pub fn bytes(rt: &impl Print, s: &[u8]) -> io::Result<()> {
-    text(rt, " ")?;
-    for byte in s {
-        print!(rt; "{byte:02x}")?;
+impl fmt::Display for Hex<'_> {
+    fn fmt<W: fmt::Write>(&self, f: &mut fmt::Formatter<W>) -> fmt::Result {
+        for byte in self.0 {
+            write!(f, "{byte:02x}")?;
+        }
+        Ok(())
     }
-    Ok(())
+}
+
+impl fmt::Display for Refused {
+    fn fmt<W: fmt::Write>(&self, f: &mut fmt::Formatter<W>) -> fmt::Result {
+        write!(f, "refused {} {}", self.0.kind.number(), self.0.index)
+    }
 }

@@ -1,114 +1,98 @@
-// The store of a file's rows, and what it is asked. A word is known by its place: the ratio, what stands first behind it, the end of the group. Places are few, so
-// that no sum of them wraps.
-use refusal::Refusal;
-use crate::numbers::Number;
-use crate::{numbers, sentences, space, words};
-use reason::Reason;
+// What is said of a group's ids.
+use crate::ratio::{Ratio, RatioError};
+use crate::sentences::Sentence;
+use crate::store::Store;
+use crate::{store, words};
+use refusal::{Kind, Refusal};
+use staff_files::{PATH_MAX, Unread};
+use std::alloc::AllocError;
 use std::env::Env;
 use std::io;
-use tables::{BATCH_WORDS, Capacities, TALLY_WORDS};
+use std::ops::Range;
+use std::rt::Files;
 
-fn caps() -> Capacities {
-    Capacities {
-        ids: space::IDS,
-        slots: space::SLOTS,
+// Why there is no answer. Where the file cannot be opened, standard error has said why.
+#[derive(Drop)]
+pub enum NoAnswer<'a> {
+    Ratio(RatioError<'a>),
+    Unopened,
+    Block(Refusal),
+    Row(Refusal),
+    Failed(io::Error),
+}
+
+impl<'a> From<RatioError<'a>> for NoAnswer<'a> {
+    fn from(error: RatioError<'a>) -> NoAnswer<'a> {
+        NoAnswer::Ratio(error)
     }
 }
 
-// ---- the questions: the words behind the ratio, or each row where there are none
+impl<'a> From<io::Error> for NoAnswer<'a> {
+    fn from(error: io::Error) -> NoAnswer<'a> {
+        NoAnswer::Failed(error)
+    }
+}
 
-// How many there are; a store that is refused is asked nothing.
-fn questions(
-    rt: &impl Print,
-    first: usize,
-    end: usize,
-    rows: usize,
-    rebuilt: Result<(), Refusal>,
-) -> io::Result<usize> {
-    match rebuilt {
-        Ok(()) => Ok(if first < end { end - first } else { rows }),
-        Err(refusal) => {
-            sentences::say_row(rt, refusal)?;
-            Ok(0)
+impl<'a> From<AllocError> for NoAnswer<'a> {
+    fn from(error: AllocError) -> NoAnswer<'a> {
+        NoAnswer::Failed(io::Error::from(error))
+    }
+}
+
+// A file that is too long is no whole number of blocks, and what is left of one that is cut short is none.
+impl<'a> From<Unread> for NoAnswer<'a> {
+    fn from(error: Unread) -> NoAnswer<'a> {
+        match error {
+            Unread::Unopened => NoAnswer::Unopened,
+            Unread::TooLong | Unread::CutShort => NoAnswer::Block(Refusal::of(
+                Kind::WrongShape,
+            )),
+            Unread::Failed(error) => NoAnswer::Failed(error),
         }
     }
 }
 
-fn asked_at(env: &impl Env, first: usize, end: usize, ids: &[u64], at: usize) -> Number {
-    if first < end {
-        numbers::id_at(env, first.wrapping_add(at))
-    } else if at < ids.len() {
-        Number {
-            is_one: true,
-            n: ids[at],
-        }
-    } else {
-        numbers::none()
-    }
-}
-
-fn say(
+fn say_word(
     rt: &(impl Env + Print),
-    ratio: usize,
-    first: usize,
-    at: usize,
-    asked: Number,
-    reason: Reason,
+    store: &Store,
+    ratio: Ratio<'_>,
+    place: usize,
 ) -> io::Result<()> {
-    if asked.is_one {
-        sentences::say_reason(rt, asked.n, ratio, reason)
-    } else {
-        words::say(rt, first.wrapping_add(at), 0, ": no id such as id=8\n")
+    let mut space = [0; PATH_MAX];
+    let word = staff_files::word(rt, place, &mut space);
+    match words::id_of(word) {
+        Some(id) => say_id(rt, store, ratio, id),
+        None => {
+            rt.write_all(word)?;
+            println!(rt; ": no id such as id=8")
+        }
     }
 }
 
-// ---- the answers
+fn say_id(rt: &impl Print, store: &Store, ratio: Ratio<'_>, id: u64) -> io::Result<()> {
+    let reason = store.reason(id, ratio.value);
+    let typed = ratio.typed;
+    println!(rt; "{}", Sentence { id, typed, reason })
+}
 
-pub fn answer(
-    rt: &(impl Env + Print + AllocGlobal),
-    ratio: usize,
-    end: usize,
-    r: f32,
-    ids: &[u64],
-    row_locations: &[u64],
-    row_carried: &[u8],
-) -> io::Result<()> {
-    let mut id_marks = space::id_marks(rt.alloc())?;
-    let mut locations = space::locations(rt.alloc())?;
-    let mut slot_marks = space::slot_marks(rt.alloc())?;
-    let mut owners = space::owners(rt.alloc())?;
-    let mut batch = [0u64; BATCH_WORDS];
-    let mut tallies = [0u64; TALLY_WORDS];
-    let mut carried = space::carried(rt.alloc())?;
-    let rebuilt = rebuild::rebuild(
-        caps(),
-        &mut id_marks,
-        &mut locations,
-        &mut slot_marks,
-        &mut owners,
-        &mut batch,
-        &mut tallies,
-        &mut carried,
-        ids,
-        row_locations,
-        row_carried,
-    );
-    let first = ratio.wrapping_add(1);
-    let questions = questions(rt, first, end, ids.len(), rebuilt)?;
-    for at in 0..questions {
-        let asked = asked_at(rt, first, end, ids, at);
-        let reason = reason::reason_for_object(
-            caps(),
-            &id_marks,
-            &locations,
-            &slot_marks,
-            &owners,
-            &batch,
-            &tallies,
-            asked.n,
-            r,
-        );
-        say(rt, ratio, first, at, asked, reason)?;
+// Of each id that is asked at these places, or of each row's where there are none.
+pub fn answer<'a, R: Files + Env + Print + Eprint + AllocGlobal>(
+    rt: &R,
+    name: &[u8],
+    typed: &'a [u8],
+    asked: Range<usize>,
+) -> Result<(), NoAnswer<'a>> {
+    let ratio = Ratio::of(typed)?;
+    let file = staff_files::load(rt, name, store::LONGEST)?;
+    let rows = Rows::of_file(rt.alloc(), &file)?;
+    let store = Store::of_rows(rt.alloc(), &rows)?;
+    if asked.is_empty() {
+        for id in &rows.ids {
+            say_id(rt, &store, ratio, *id)?;
+        }
+    }
+    for place in asked {
+        say_word(rt, &store, ratio, place)?;
     }
     Ok(())
 }

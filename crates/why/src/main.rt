@@ -8,53 +8,56 @@
 #![tactic(auto)]
 
 mod answers;
-mod files;
-mod numbers;
+mod ratio;
+mod rows;
 mod sentences;
-mod space;
+mod store;
 mod words;
 
-use numbers::Ratio;
+use answers::NoAnswer;
+use staff_files::PATH_MAX;
 use std::env::Env;
 use std::io;
+use std::ops::Range;
 use std::rt::Files;
 
-// A group, its words by their places: the file, the word behind it, and the next file or the end.
+// A group, its words by their places: the file, and those behind it.
 fn say_group<R: Files + Env + Print + Eprint + AllocGlobal>(
     rt: &R,
     file: usize,
-    ratio: usize,
-    end: usize,
+    mut behind: Range<usize>,
 ) -> io::Result<()> {
-    words::say(rt, file, 0, ":\n")?;
-    match numbers::ratio_at(rt, ratio) {
-        Ratio::Is(r) => files::answer(rt, file, ratio, end, r),
-        Ratio::Missing => println!(rt;
-            "no ratio is given: it stands behind the file, as ratio=0.75"
-        ),
-        Ratio::NoDecimal => words::say(rt, ratio, 0, ": no decimal such as 0.75\n"),
-        Ratio::OutOfRange => words::say(
-            rt,
-            ratio,
-            words::RATIO_BYTES,
-            " is no fill ratio: it is above 0 and at most 1\n",
-        ),
+    let mut space = [0; PATH_MAX];
+    let name = staff_files::word(rt, file, &mut space);
+    rt.write_all(name)?;
+    println!(rt; ":")?;
+    // Where nothing stands behind the file its own name is taken, which is no ratio.
+    let place = behind.next().unwrap_or(file);
+    let mut space = [0; PATH_MAX];
+    let typed = staff_files::word(rt, place, &mut space);
+    match answers::answer(rt, name, typed, behind) {
+        Ok(()) => Ok(()),
+        Err(NoAnswer::Failed(error)) => Err(error),
+        Err(NoAnswer::Ratio(error)) => sentences::say_no_ratio(rt, error),
+        Err(NoAnswer::Unopened) => println!(rt; "it cannot be read"),
+        Err(NoAnswer::Block(refusal)) => sentences::say_block(rt, refusal),
+        Err(NoAnswer::Row(refusal)) => sentences::say_row(rt, refusal),
     }
 }
 
 fn main(rt: HostRuntime) -> io::Result<()> {
-    let count = words::count(&rt);
-    let mut i = words::next_file(&rt, 1, count);
-    if i != 1 || count < 2 {
+    let count = staff_files::word_count(&rt);
+    if count < 2 || !words::is_file(&rt, 1) {
         println!(rt;
             "why FILE ratio=0.75 [id=8 ..] ..: why objects of snapshot files are to be moved, or are not; without an id, each row's"
         )?;
     }
-    while i < count {
-        let behind = i + 1;
-        let end = words::next_file(&rt, behind, count);
-        say_group(&rt, i, behind, end)?;
-        i = end;
+    for file in 1..count {
+        if words::is_file(&rt, file) {
+            let behind = file + 1;
+            let end = words::next_file(&rt, behind, count);
+            say_group(&rt, file, behind..end)?;
+        }
     }
     Ok(())
 }

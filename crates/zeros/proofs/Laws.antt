@@ -8,12 +8,19 @@ use native.Mathlib.Nat.{suc-ne-zero}
 use native.Mathlib.Omega.{arith}
 use lib.Bits.{bit_or, bit_and, or_add_and, and_le_l, and_comm}
 use lib.Dec.{eqb}
-use lib.ListN.{length, take, drop, replicate, length-take, drop_of_length-le}
+use lib.ListN.{length, take, drop, replicate, length-take}
 use lib.Seq.{take_all, drop-drop}
 use borrow.Author.Tests.{eq-eqb, ne_eqb}
 use Rattle.refusal.proofs.Tests.{all, and_true, both_ways}
+use Rattle.list_parts.specs.Parts.{part}
+use Rattle.list_parts.proofs.Parts.{part_range}
 use Rattle.list_parts.proofs.Ranges.{rest_part}
 use Rattle.little_endian.specs.LittleEndian.{word}
+use lib.ListN.{get_or, length-drop}
+use Rattle.std.specs.Int.{sum_through, byte_worth}
+use Rattle.std.specs.List.{fold}
+use Rattle.std.specs.Simd.{first_chunks}
+use Rattle.little_endian.proofs.Laws.{word_worth}
 use Rattle.zeros.specs.Zeros.{all_zero}
 
 -- ---- zeros repeated
@@ -74,9 +81,6 @@ all_zero_word (suc b ∷ bs) = ne_eqb (word bs * 2 ^ 8 + suc b) 0 (λ e. omega a
 pub all_zero_get : (l : List ℕ) (r : ℕ) → length l ≤ 8 → r ≡ word (take 8 l) → eqb r 0 ≡ all_zero l
 all_zero_get l r h e = rw (e, take_all 8 l h) (all_zero_word l)
 
-pub length_turn : (l : List ℕ) (i : ℕ) → length (take (i + 8 - i) (drop i l)) ≤ 8
-length_turn l i = rw (length-take (i + 8 - i) (drop i l)) (omega arith)
-
 -- ---- a turn: w bytes at i, whose bits are joined in r
 pub all_zero_turn : (l : List ℕ) (i w any r : ℕ) → eqb r 0 ≡ all_zero (take (i + w - i) (drop i l))
     → (eqb any 0 && all_zero (drop i l)) ≡ (eqb (bit_or any r) 0 && all_zero (drop (i + w) l))
@@ -89,9 +93,39 @@ all_zero_turn l i w any r e =
     ∙ ap (λ (x : List ℕ). eqb (bit_or any r) 0 && all_zero x) (drop-drop w i l)
 
 -- nothing is left
-pub all_zero_end : (l : List ℕ) (i any : ℕ) → length l ≤ i → (eqb any 0 && all_zero (drop i l)) ≡ eqb any 0
+all_zero_end : (l : List ℕ) (any : ℕ) → length l ≡ 0 → (eqb any 0 && all_zero l) ≡ eqb any 0
 unfolding all_zero
-all_zero_end l i any h = ap (λ (x : List ℕ). eqb any 0 && all_zero x) (drop_of_length-le l h) ∙ B.and-true (eqb any 0)
+all_zero_end [] any h = B.and-true (eqb any 0)
+all_zero_end (b ∷ bs) any h = absurd (suc-ne-zero (length bs) h)
+
+-- ---- the bits of k words together, and those of a
+abbrev pub join_word : ℕ → List ℕ → ℕ
+join_word a w = bit_or a (sum_through (λ i. byte_worth i (get_or w i 0)) 7)
+
+pub joined_words : (k : ℕ) (l : List ℕ) (a : ℕ) → length l ≡ k * 8 → eqb (fold join_word a (first_chunks 8 k l)) 0 ≡ (eqb a 0 && all_zero l)
+joined_words zero l a h = sym (all_zero_end l a (omega (arith, h)))
+joined_words (suc k) l a h =
+    let w = take 8 l in
+    let n : length w ≤ 8 = rw (length-take 8 l) (omega arith) in
+    let r = sum_through (λ i. byte_worth i (get_or w i 0)) 7 in
+    joined_words k (drop 8 l) (join_word a w) (omega (arith, length-drop 8 l, h)) ∙ sym (all_zero_turn l 0 8 a r (all_zero_get w r n (word_worth 7 w)))
+
+-- bytes one by one
+pub joined_bytes : (l : List ℕ) (a : ℕ) → eqb (fold bit_or a l) 0 ≡ (eqb a 0 && all_zero l)
+unfolding all_zero
+joined_bytes [] a = sym (B.and-true (eqb a 0))
+joined_bytes (zero ∷ bs) a = joined_bytes bs (bit_or a 0) ∙ ap (λ (x : Bool). x && all_zero bs) (or_zero a 0 ∙ B.and-true (eqb a 0))
+joined_bytes (suc b ∷ bs) a =
+    joined_bytes bs (bit_or a (suc b)) ∙ ap (λ (x : Bool). x && all_zero bs) (or_zero a (suc b) ∙ ap (λ (x : Bool). eqb a 0 && x) (not_zero b))
+    ∙ B.and_assoc (eqb a 0) false (all_zero bs)
+
+-- ---- block i, whose bits are joined in r
+pub block_turn : (l : List ℕ) (i any r : ℕ) → eqb r 0 ≡ all_zero (part 64 l i)
+    → (eqb any 0 && all_zero (drop (i * 64) l)) ≡ (eqb (bit_or any r) 0 && all_zero (drop ((i + 1) * 64) l))
+block_turn l i any r e =
+    let n : i * 64 + 64 ≡ (i + 1) * 64 = omega arith in
+    all_zero_turn l (i * 64) 64 any r (e ∙ sym (ap all_zero (part_range 64 l i)))
+    ∙ ap (λ (k : ℕ). eqb (bit_or any r) 0 && all_zero (drop k l)) n
 
 -- ---- the last w bytes, whose bits are joined in r: what was looked at of them before may be looked at again
 again : (l : List ℕ) (k i : ℕ) (z : Bool) → k ≤ i → all_zero l ≡ (z && all_zero (drop i l)) → (z && all_zero (drop k l)) ≡ all_zero l

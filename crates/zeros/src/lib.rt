@@ -19,19 +19,15 @@ const FOUR_WORDS: usize = 4 * WORD;
 // The bytes of a block where there are many.
 const BLOCK: usize = 8 * WORD;
 
-// All bits of the numbers in the bytes together.
+// All bits of the words in the bytes together.
 fn joined(bytes: &[u8]) -> u64
     requires { length bytes.now % 8 ≡ 0 }
     ensures { eqb result 0 ≡ all_zero bytes.now }
 {
-    let mut any = 0u64;
-    let mut i = 0;
-    while i < bytes.len() {
-        let end = i + WORD;
-        any = any | little_endian::get(&bytes[i..end]);
-        i = end;
-    }
-    any
+    let (words, _) = bytes.as_chunks::<WORD>();
+    words
+        .iter()
+        .fold(0, |any, word| any | u64::from_le_bytes(*word))
 }
 
 // The first bytes and the last ones, which are all of them.
@@ -48,14 +44,12 @@ fn by_blocks(bytes: &[u8]) -> bool
     requires { 64 ≤ length bytes.now }
     ensures { result ≡ all_zero bytes.now }
 {
-    let mut any = 0u64;
-    let mut i = 0;
-    while BLOCK <= bytes.len() - i {
-        let end = i + BLOCK;
-        any = any | joined(&bytes[i..end]);
-        i = end;
+    let (blocks, _) = bytes.as_chunks::<BLOCK>();
+    let mut any = 0;
+    for block in blocks {
+        any |= joined(block);
     }
-    any = any | joined(&bytes[bytes.len() - BLOCK..]);
+    any |= joined(&bytes[bytes.len() - BLOCK..]);
     any == 0
 }
 
@@ -64,7 +58,7 @@ pub fn all_zero(bytes: &[u8]) -> bool
     ensures { result ≡ all_zero bytes.now }
 {
     if bytes.len() < WORD {
-        return little_endian::get(bytes) == 0;
+        return bytes.iter().fold(0, |any, byte| any | *byte) == 0;
     }
     if bytes.len() < TWO_WORDS {
         return by_ends(bytes, WORD);

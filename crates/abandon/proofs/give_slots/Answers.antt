@@ -1,5 +1,5 @@
 -- All slots are given back. The invariant: giving back from row i on, from the tables as they are, is giving back all, from the tables at
--- entry; what is left of n falls. Assumes nothing.
+-- entry. Assumes nothing.
 use mathlib.Core.Path.{refl, sym, ap, ◌∙◌}
 use Prim.Native.Nat.{ℕ, ◌+◌, ◌-◌}
 use native.Mathlib.Nat.{sub-zero}
@@ -11,13 +11,7 @@ use Rattle.abandon.proofs.Laws.{give_next, give_none}
 use Rattle.abandon.proofs.give_slots.Goals as goal
 
 pub loop-i-init : goal.loop-i-init
-loop-i-init c = (omega arith, refl, refl, rw sub-zero)
-
-pub overflow_add-i : goal.overflow_add-i
-overflow_add-i c = omega arith
-
-pub loop-i-smaller : goal.loop-i-smaller
-loop-i-smaller c = omega arith
+loop-i-init c = (refl, refl, rw sub-zero)
 
 pub loop-i-preserved : goal.loop-i-preserved
 loop-i-preserved c =
@@ -26,17 +20,10 @@ loop-i-preserved c =
     let s : Slots = record { marks = l.slot_marks; words = l.tallies } in (
       omega arith,
       omega arith,
-      omega arith,
       ap (λ (x : Slots). give_slots a.slots x (locations_of (kept_from a.batch.now (a.n - (l.i + 1)) (l.i + 1))))
           (c.give_slot.ensures ∙ ap (λ (x : ℕ). give_slot a.slots s x) c.get-location.ensures)
-          ∙ sym (give_next a.slots s a.batch.now a.n l.i c.loop-i-test.true) ∙ l.invariant.3,
+          ∙ sym (give_next a.slots s a.batch.now a.n l.i c.loop-i-test.true) ∙ l.invariant.2,
     )
 
-pub shape_of-slot_marks : goal.shape_of-slot_marks
-shape_of-slot_marks c = c.loop-i.invariant.1
-
-pub shape_of-tallies : goal.shape_of-tallies
-shape_of-tallies c = c.loop-i.invariant.2
-
 pub returns : goal.returns
-returns c = sym (give_none _ _ _ _ _ c.loop-i-test.false) ∙ c.loop-i.invariant.3
+returns c = sym (give_none _ _ _ _ _ c.loop-i-test.false) ∙ c.loop-i.invariant.2

@@ -1,4 +1,4 @@
--- The row passes through a local array into its part of the column. Assumes nothing.
+-- The row is copied over its part of the column. Assumes nothing.
 use mathlib.Core.Path.{sym, ap, ◌∙◌}
 use native.Mathlib.Omega.{arith}
 use Rattle.list_parts.specs.Parts.{put_part}
@@ -22,6 +22,6 @@ pub returns : goal.returns
 returns c =
     let a = c.args in
     let t = a.column.now in
-    put_part_range width t a.index c.copy-2.new.to
-    ∙ ap (put_part width t a.index) (c.copy-2.ensures ∙ c.copy.ensures)
+    put_part_range width t a.index _
+    ∙ ap (put_part width t a.index) c.copy_from_slice.ensures.after
     ∙ sym (put_row_done width t a.index a.row.now (omega arith) c.if-row-ne-WIDTH.false)

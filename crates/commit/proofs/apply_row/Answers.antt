@@ -20,4 +20,4 @@ returns c =
     let m = memory_of a.caps.ids a.caps.slots a.id_marks.now a.locations.now a.slot_marks.now a.owners.now a.batch.now a.tallies.now in
     row_free m a.batch.now a.index c.get-id.result c.get-new.result c.get-old.result c.get-id.ensures c.get-new.ensures c.get-old.ensures
     _ _ _ _ _ _ _ c.if-new-ne0.false c.put.ensures
-    c.put-2.ensures c.ready_ids.ensures.0 c.ready_ids.ensures.1 c.pend_slot-2.ensures c.put_owner-2.ensures
+    c.put-2.ensures c.ready.ensures.0 c.ready.ensures.1 c.pend_slot-2.ensures c.put_owner-2.ensures

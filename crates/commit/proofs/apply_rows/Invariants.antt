@@ -1,5 +1,5 @@
 use mathlib.Core.Path.{◌≡◌}
-use Prim.Native.Nat.{◌-◌, ◌≤◌}
+use Prim.Native.Nat.{◌-◌}
 use lib.ListN.{length}
 use Rattle.model.specs.Memory.{memory_of}
 use Rattle.model.specs.MemoryAfter.{commit_all}
@@ -8,14 +8,6 @@ use Rattle.commit.proofs.apply_rows.Given as goal
 
 abbrev pub invariant-loop-i : goal.invariant-loop-i
 invariant-loop-i l =
-    (l.i ≤ l.n)
-    × (length l.id_marks ≡ length l.initial.id_marks)
-    × (length l.locations ≡ length l.initial.locations)
-    × (length l.slot_marks ≡ length l.initial.slot_marks)
-    × (length l.owners ≡ length l.initial.owners)
-    × (length l.tallies ≡ length l.initial.tallies)
+    (length l.slot_marks ≡ length l.initial.slot_marks)
     × (commit_all (memory_of l.caps.ids l.caps.slots l.id_marks l.locations l.slot_marks l.owners l.batch l.tallies) (kept_from l.batch (l.n - l.i) l.i)
     ≡ commit_all (memory_of l.caps.ids l.caps.slots l.initial.id_marks l.initial.locations l.initial.slot_marks l.initial.owners l.batch l.initial.tallies) (kept_from l.batch l.n 0))
-
-abbrev pub decreases-loop-i : goal.decreases-loop-i
-decreases-loop-i l = l.n - l.i

@@ -1,31 +1,35 @@
--- An owner entry: a location is an address or nothing (`location_address`), and nothing is written at none. Assumes nothing.
-use mathlib.Core.Path.{refl, sym, ap, ◌∙◌}
+-- A location is at an address or nowhere. Assumes nothing.
+use mathlib.Core.Path.{sym, ap, ◌∙◌}
 use native.Mathlib.Omega.{arith}
-use mathlib.Core.List.{List}
-use Prim.Native.Nat.{ℕ, ◌+◌, ◌*◌, pred}
+use Prim.Native.Nat.{◌+◌, ◌*◌, pred}
 use lib.ListN.{set}
-use Rattle.address.proofs.Laws.{unpacked_at}
-use Rattle.tables.proofs.LawsEntries.{else_is, start_lt}
-use Rattle.batch_kept.specs.Kept.{by_address}
-use Rattle.batch_kept.proofs.Laws.{location_address}
+use Rattle.std.proofs.Common.{rules, Ok}
+use Rattle.address.proofs.Laws.{unpacked_at, none_unpacked, none_refused}
+use Rattle.tables.proofs.LawsEntries.{start_lt}
+use Rattle.batch_kept.proofs.Laws.{nowhere, somewhere}
 use Rattle.commit.proofs.put_owner.Goals as goal
 
 pub returns-in_default : goal.returns-in_default
 returns-in_default c =
     let a = c.args in
     let t = a.owners.now in
-    let f : ℕ → ℕ → List ℕ = λ k j. set t (pred k * a.slots + j) a.id in
-    sym (location_address a.slots a.location c.requires f t
-    ∙ ap (by_address f t) (sym c.unpack.ensures) ∙ else_is (by_address f t) t refl (λ r. refl) c.unpack.result c.in_default.not-At)
+    nowhere a.slots a.location c.requires (λ k j. set t (pred k * a.slots + j) a.id) t _ c.unpack.ensures (none_unpacked c.unpack.result (search rules))
+
+pub returns-in_default-2 : goal.returns-in_default-2
+returns-in_default-2 c =
+    let a = c.args in
+    let t = a.owners.now in
+    nowhere a.slots a.location c.requires (λ k j. set t (pred k * a.slots + j) a.id) t _ c.unpack.ensures (none_refused c.unpack.result _ c.in_default.is)
 
 pub overflow_mul-slab : goal.overflow_mul-slab
 overflow_mul-slab c =
-    let u = unpacked_at _ _ _ (sym c.unpack.ensures ∙ c.in-At.is) in
+    let u = unpacked_at _ _ _ (sym c.unpack.ensures ∙ c.in-Ok-Some.is ∙ ap Ok c.in-Ok-Some.field-0-is) in
     omega (arith, start_lt _ _ u.slab_lt u.capacity)
 
 pub returns : goal.returns
 returns c =
     let a = c.args in
     let t = a.owners.now in
-    let f : ℕ → ℕ → List ℕ = λ k j. set t (pred k * a.slots + j) a.id in
-    c.put.ensures ∙ sym (location_address a.slots a.location c.requires f t ∙ ap (by_address f t) (sym c.unpack.ensures ∙ c.in-At.is))
+    let u = c.in-Ok-Some in
+    c.put.ensures
+    ∙ somewhere a.slots a.location c.requires (λ k j. set t (pred k * a.slots + j) a.id) t u.address (sym c.unpack.ensures ∙ u.is ∙ ap Ok u.field-0-is)

@@ -1,35 +1,32 @@
--- `crc_words::few` meets its contract: the law of fewer bytes than a word has, by the turn of the last word.
+-- `crc_words::few` meets its contract: the law of fewer bytes than a word has.
 -- Assumes nothing.
-use mathlib.Core.Path.{subst}
+use mathlib.Core.Path.{ap, ◌∙◌}
 use Prim.Native.Nat.{ℕ, ◌-◌, ◌*◌}
 use native.Mathlib.Omega.{arith}
+use lib.Bits.{bit_xor}
 use lib.ListN.{length}
-use Rattle.crc_words.specs.Fold.{up, held, Turn}
-use Rattle.crc_words.proofs.Left.{no_bytes, fewer}
+use Rattle.crc_steps.specs.Crc32.{steps}
+use Rattle.crc_steps.proofs.Laws.{crc_over_lt}
+use Rattle.crc_words.specs.Fold.{up}
+use Rattle.crc_words.proofs.Read.{no_bytes, fewer}
 use Rattle.crc_words.proofs.few.Goals as goal
 
 pub returns-then-h-eq0 : goal.returns-then-h-eq0
-returns-then-h-eq0 c = no_bytes c.args.s.now c.args.register (omega arith)
+returns-then-h-eq0 c = no_bytes c.args.bytes.now c.args.register (omega arith)
 
-pub overflow_cast-result : goal.overflow_cast-result
-overflow_cast-result c =
+pub with_none-requires : goal.with_none-requires
+with_none-requires c =
     let a = c.args in
-    let p = 64 - 8 * length a.s.now in
-    let w = c.last-w.result in
-    omega (
-      arith,
-      (fewer a.s.now (λ k. (c.type_inv.s k).fits) a.register p c.get.result w.a w.b w.c w.d w.e (omega arith) (omega arith) c.get.ensures
-          (subst (λ (z : ℕ). Turn 0 (up p c.get.result) z (held w)) c.on_last.ensures c.last-w.ensures)
-          (omega arith)
-          ).1,
-    )
+    let s = a.bytes.now in
+    let p = 64 - 8 * length s in
+    rw (c.on_last.ensures, fewer s (λ k. (c.type_inv.bytes k).fits) a.register p c.get.result (omega arith) c.get.ensures)
+    (crc_over_lt a.register s (omega arith) (λ k. (c.type_inv.bytes k).fits))
 
 pub returns : goal.returns
 returns c =
     let a = c.args in
-    let p = 64 - 8 * length a.s.now in
-    let w = c.last-w.result in
-    (fewer a.s.now (λ k. (c.type_inv.s k).fits) a.register p c.get.result w.a w.b w.c w.d w.e (omega arith) (omega arith) c.get.ensures
-    (subst (λ (z : ℕ). Turn 0 (up p c.get.result) z (held w)) c.on_last.ensures c.last-w.ensures)
-    (omega arith)
-    ).0
+    let s = a.bytes.now in
+    let p = 64 - 8 * length s in
+    c.with_none.ensures
+    ∙ ap (λ (z : ℕ). steps 64 (bit_xor (up p c.get.result) z)) c.on_last.ensures
+    ∙ fewer s (λ k. (c.type_inv.bytes k).fits) a.register p c.get.result (omega arith) c.get.ensures

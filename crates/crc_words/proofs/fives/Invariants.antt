@@ -1,11 +1,8 @@
-use mathlib.Core.Path.{◌≡◌}
-use Prim.Native.Nat.{◌+◌, ◌-◌, ◌%◌, ◌≤◌}
-use lib.ListN.{length}
-use Rattle.crc_words.specs.Fold.{past, left}
+use mathlib.Core.List.{◌++◌}
+use lib.ListN.{take}
+use Rattle.std.specs.List.{flat_map}
+use Rattle.crc_words.specs.Fold.{held, past, Far}
 use Rattle.crc_words.proofs.fives.Given as goal
 
-abbrev pub invariant-loop-i : goal.invariant-loop-i
-invariant-loop-i l = (l.i + 40 ≤ length l.s) × (((length l.s - l.i) % 8 ≡ 0) × (left l.s l.initial.i (past l.initial.h) ≡ left l.s l.i (past l.h)))
-
-abbrev pub decreases-loop-i : goal.decreases-loop-i
-decreases-loop-i l = length l.s - l.i
+abbrev pub invariant-loop-words : goal.invariant-loop-words
+invariant-loop-words l = Far (l.first ++ flat_map (λ words. words) (take l.words-index l.blocks)) (held l.fn.from) (past l.h)

@@ -22,7 +22,7 @@ returns-then-not-fits c =
     let is = a.moved_ids.now in
     let ls = a.moved_locations.now in
     let m = lent_to (ask (defrag a.r is ls)) a.caps.ids a.caps.slots a.locations.now a.slot_marks.now a.owners.now a.batch.now a.tallies.now in
-    let w = wrong m a.r is ls (sym c.fits.ensures ∙ not-true _ c.if-not-fits.true-raw) in
+    let w = wrong m a.r is ls (sym c.fits.ensures ∙ c.if-not-fits.true) in
     (ap refused_as c.of.ensures ∙ ap outcome_of w, ap (λ x. list_in 0 x is) w, ap (λ x. list_in 1 x ls) w)
 
 pub returns-then-get-ne0 : goal.returns-then-get-ne0
@@ -31,7 +31,7 @@ returns-then-get-ne0 c =
     let is = a.moved_ids.now in
     let ls = a.moved_locations.now in
     let m = lent_to (ask (defrag a.r is ls)) a.caps.ids a.caps.slots a.locations.now a.slot_marks.now a.owners.now a.batch.now a.tallies.now in
-    let fits = sym c.fits.ensures ∙ not-false _ c.if-not-fits.false-raw in
+    let fits = sym c.fits.ensures ∙ c.if-not-fits.false in
     let w = opened m a.r is ls fits (λ e. c.if-get-ne0.true (c.get.ensures ∙ e)) in
     (ap refused_as c.of-then-get-ne0.ensures ∙ ap outcome_of w, ap (λ x. list_in 0 x is) w, ap (λ x. list_in 1 x ls) w)
 
@@ -41,7 +41,7 @@ returns-then-bad_ratio c =
     let is = a.moved_ids.now in
     let ls = a.moved_locations.now in
     let m = lent_to (ask (defrag a.r is ls)) a.caps.ids a.caps.slots a.locations.now a.slot_marks.now a.owners.now a.batch.now a.tallies.now in
-    let fits = sym c.fits.ensures ∙ not-false _ c.if-not-fits.false-raw in
+    let fits = sym c.fits.ensures ∙ c.if-not-fits.false in
     let w = ratio m a.r is ls fits (sym c.get.ensures ∙ c.if-get-ne0.false) (not-true _ (sym c.bad_ratio.ensures ∙ c.if-bad_ratio.true)) in
     (ap refused_as c.of-then-bad_ratio.ensures ∙ ap outcome_of w, ap (λ x. list_in 0 x is) w, ap (λ x. list_in 1 x ls) w)
 
@@ -51,7 +51,7 @@ list_all-requires c =
     let is = a.moved_ids.now in
     let ls = a.moved_locations.now in
     let m = lent_to (ask (defrag a.r is ls)) a.caps.ids a.caps.slots a.locations.now a.slot_marks.now a.owners.now a.batch.now a.tallies.now in
-    let fits = sym c.fits.ensures ∙ not-false _ c.if-not-fits.false-raw in
+    let fits = sym c.fits.ensures ∙ c.if-not-fits.false in
     let f = tables_fit m a.r is ls fits in
     let s = fits_range move_tables m f in
     (s.slots_from, s.slots_to, fits_slot_marks move_tables m f, fits_owners move_tables m f, not-false _ (sym c.bad_ratio.ensures ∙ c.if-bad_ratio.false))
@@ -62,7 +62,7 @@ returns c =
     let is = a.moved_ids.now in
     let ls = a.moved_locations.now in
     let m = lent_to (ask (defrag a.r is ls)) a.caps.ids a.caps.slots a.locations.now a.slot_marks.now a.owners.now a.batch.now a.tallies.now in
-    let fits = sym c.fits.ensures ∙ not-false _ c.if-not-fits.false-raw in
+    let fits = sym c.fits.ensures ∙ c.if-not-fits.false in
     let f = tables_fit m a.r is ls fits in
     let g = given m a.r is ls fits (sym c.get.ensures ∙ c.if-get-ne0.false) (not-false _ (sym c.bad_ratio.ensures ∙ c.if-bad_ratio.false)) in
     let q = rows_are m a.r (fits_range move_tables m f).slots_from (fits_locations move_tables m f) (fits_slot_marks move_tables m f) (fits_owners move_tables m f) in

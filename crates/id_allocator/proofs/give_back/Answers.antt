@@ -18,6 +18,6 @@ unfolding given_back hint_back
 returns c =
     let a = c.args in
     let inside = lt-ltb _ _ c.if-marks-number.false in
-    let end = c.larger-end.ensures ∙ ap (max a.number) c.smaller.ensures in
+    let end = c.max-end.ensures ∙ ap (max a.number) c.min.ensures in
     let opened-now = opened_part a.hint a.number _ a.marks.now _ (search rules) end c.turn.ensures in
-    (simp inside c.smaller-2.ensures, simp inside (ap (λ l. set l a.number 0) opened-now))
+    (simp inside c.min-2.ensures, simp inside (ap (λ l. set l a.number 0) opened-now))

@@ -10,12 +10,12 @@ use Rattle.id_allocator.proofs.last_taken.Goals as goal
 pub overflow_add-result : goal.overflow_add-result
 overflow_add-result c =
     let ms = c.args.marks.now in
-    let h = c.smaller-below.result in
+    let h = c.min-below.result in
     omega (arith, c.last_taken.ensures, last_taken_rest ms h, last_taken_le (drop h ms), length-drop h ms)
 
 pub returns : goal.returns
 returns c =
     let a = c.args in
     let ms = a.marks.now in
-    let h = c.smaller-below.result in
-    omega (arith, c.last_taken.ensures, last_taken_rest ms h, hinted_last_taken h ms, ap last_taken (hinted_at a.hint h ms c.smaller-below.ensures))
+    let h = c.min-below.result in
+    omega (arith, c.last_taken.ensures, last_taken_rest ms h, hinted_last_taken h ms, ap last_taken (hinted_at a.hint h ms c.min-below.ensures))

@@ -10,12 +10,12 @@ use Rattle.id_allocator.proofs.live.Goals as goal
 pub overflow_sub-result : goal.overflow_sub-result
 overflow_sub-result c =
     let ms = c.args.marks.now in
-    let h = c.smaller-start.result in
+    let h = c.min-start.result in
     omega (arith, c.count.ensures, count_if_rest is_free ms h, count_if_taken_free (drop h ms), length-drop h ms)
 
 pub returns : goal.returns
 returns c =
     let a = c.args in
     let ms = a.marks.now in
-    let h = c.smaller-start.result in
-    omega (arith, c.count.ensures, count_if_rest is_free ms h, count_if_taken_free (drop h ms), length-drop h ms, hinted_live h ms, ap (count_if is_taken) (hinted_at a.hint h ms c.smaller-start.ensures))
+    let h = c.min-start.result in
+    omega (arith, c.count.ensures, count_if_rest is_free ms h, count_if_taken_free (drop h ms), length-drop h ms, hinted_live h ms, ap (count_if is_taken) (hinted_at a.hint h ms c.min-start.ensures))

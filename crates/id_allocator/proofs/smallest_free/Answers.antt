@@ -8,5 +8,5 @@ use Rattle.id_allocator.proofs.smallest_free.Goals as goal
 pub returns : goal.returns
 returns c =
     let a = c.args in
-    let start = c.larger-start.ensures ∙ ap (max a.from) c.smaller.ensures in
+    let start = c.max-start.ensures ∙ ap (max a.from) c.min.ensures in
     c.smallest_free.ensures ∙ sym (hinted_search a.hint a.from a.marks.now ∙ ap (λ k. smallest_free k a.marks.now) (sym start))

@@ -1,43 +1,53 @@
--- The loop's invariant: no row so far has too long a key, so that the first is found among the others. The measure is how many rows are left. Assumes nothing.
-use mathlib.Core.Bool.{not}
-use mathlib.Core.Path.{ap, ◌∙◌}
+-- The loop's invariant: no row so far has too long a key, so that the first is found among the others. Assumes nothing.
+use mathlib.Core.Bool.{false, ◌&&◌}
+use mathlib.Core.List.{[]}
+use mathlib.Core.Path.{◌≡◌, ap, ◌∙◌}
+use Prim.Native.Nat.{◌<◌}
 use native.Mathlib.Omega.{arith}
-use lib.ListN.{length}
-use Rattle.keys.specs.Keys.{stores_of}
+use lib.ListN.{length, get_or}
+use Rattle.list_parts.specs.Parts.{part}
+use Rattle.carried.specs.Carried.{width}
+use Rattle.keys.specs.Keys.{key_is_long, stores_of}
 use Rattle.keys.proofs.Laws.{length_stores_of, get_d_stores_of}
-use Rattle.keys.proofs.LawsCode.{not_whole, is_whole, when_whole, long_here, long_turn, long_end}
-use borrow.Author.Rules.{rules}
+use Rattle.keys.proofs.LawsCode.{when_so_many, so_many, row_at, long_here, long_turn, long_end}
 use Rattle.keys.proofs.first_long.Goals as goal
 
-pub returns-then-not-whole : goal.returns-then-not-whole
-returns-then-not-whole c = not_whole _ _ _ _ c.whole.ensures (ap not c.if-not-whole.true)
-
-pub loop-i-init : goal.loop-i-init
-loop-i-init c = (search rules, is_whole _ _ _ c.whole.ensures (ap not c.if-not-whole.false), omega arith)
+pub bounds-stores-i : goal.bounds-stores-i
+bounds-stores-i c =
+    omega (arith, c.loop-i-test.true, so_many (length c.args.stores.now) c.args.rows.now c.in-Some.rows.now c.in-Some.ensures.1)
 
 pub returns-then-is_long : goal.returns-then-is_long
 returns-then-is_long c =
-    let a = c.args in
-    let l = c.loop-i in
-    let bs = a.stores.now in
-    let e = c.is_store.ensures ∙ get_d_stores_of bs l.i in
-    long_here (stores_of bs) a.rows.now _ l.i (length_stores_of bs) l.invariant.2 _ _ (omega arith) e c.is_long.ensures c.if-is_long.true
-    ∙ when_whole _ _ _ _ l.invariant.1
+    let bs = c.args.stores.now in
+    let bytes = c.args.rows.now in
+    let rows = c.in-Some.rows.now in
+    let n = length bs in
+    let i = c.loop-i.i in
+    let inside : i < n = omega (arith, c.loop-i-test.true, so_many n bytes rows c.in-Some.ensures.1) in
+    let test : c.is_long.result ≡ (get_or (stores_of bs) i false && key_is_long (part width bytes i)) =
+    c.is_long.ensures ∙ ap (λ s. s && key_is_long (get_or rows i [])) (c.is_store.ensures ∙ get_d_stores_of bs i)
+    ∙ ap (λ r. get_or (stores_of bs) i false && key_is_long r) (row_at n bytes rows i c.in-Some.ensures.1 inside) in
+    long_here (stores_of bs) bytes n i (length_stores_of bs) c.loop-i.invariant c.is_long.result inside test c.if-is_long.true
+    ∙ when_so_many _ _ n c.in-Some.ensures.0
 
 pub loop-i-preserved : goal.loop-i-preserved
 loop-i-preserved c =
-    let a = c.args in
-    let l = c.loop-i in
-    let bs = a.stores.now in
-    let e = c.is_store.ensures ∙ get_d_stores_of bs l.i in (
-      search rules,
-      l.invariant.1,
-      long_turn (stores_of bs) a.rows.now _ l.i (length_stores_of bs) l.invariant.2 _ _ (omega arith) e c.is_long.ensures c.if-is_long.false,
-    )
+    let bs = c.args.stores.now in
+    let bytes = c.args.rows.now in
+    let rows = c.in-Some.rows.now in
+    let n = length bs in
+    let i = c.loop-i.i in
+    let inside : i < n = omega (arith, c.loop-i-test.true, so_many n bytes rows c.in-Some.ensures.1) in
+    let test : c.is_long.result ≡ (get_or (stores_of bs) i false && key_is_long (part width bytes i)) =
+    c.is_long.ensures ∙ ap (λ s. s && key_is_long (get_or rows i [])) (c.is_store.ensures ∙ get_d_stores_of bs i)
+    ∙ ap (λ r. get_or (stores_of bs) i false && key_is_long r) (row_at n bytes rows i c.in-Some.ensures.1 inside) in
+    long_turn (stores_of bs) bytes n i (length_stores_of bs) c.loop-i.invariant c.is_long.result inside test c.if-is_long.false
 
 pub returns : goal.returns
 returns c =
-    let a = c.args in
-    let l = c.loop-i in
-    let bs = a.stores.now in
-    long_end (stores_of bs) a.rows.now (length bs) l.i (length_stores_of bs) l.invariant.2 (omega arith) ∙ when_whole _ _ _ _ l.invariant.1
+    let bs = c.args.stores.now in
+    let bytes = c.args.rows.now in
+    let n = length bs in
+    let i = c.loop-i.i in
+    let all : n ≡ i = omega (arith, c.loop-i-test.false, c.loop-i.auto.i-end, so_many n bytes c.in-Some.rows.now c.in-Some.ensures.1) in
+    all ∙ long_end (stores_of bs) bytes n i (length_stores_of bs) c.loop-i.invariant (omega (arith, all)) ∙ when_so_many _ _ n c.in-Some.ensures.0

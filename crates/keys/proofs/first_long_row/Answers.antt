@@ -1,45 +1,22 @@
--- As `first_long`, where each row is stored. Assumes nothing.
-use mathlib.Core.Bool.{not}
-use mathlib.Core.Path.{sym, ap, ◌∙◌}
-use mathlib.Core.Bool.{true, false}
-use Prim.Native.Nat.{◌<◌}
-use native.Mathlib.Omega.{arith}
-use lib.ListN.{replicate, length-replicate, get_or-replicate}
-use Rattle.keys.proofs.LawsCode.{not_whole, is_whole, when_whole, long_here, long_turn, long_end}
-use borrow.Author.Rules.{rules}
+-- The place of the first row that passes. Assumes nothing.
+use mathlib.Core.Path.{◌≡◌, ap, ◌∙◌}
+use Rattle.std.proofs.Common.{rules, tests}
+use Rattle.std.proofs.lemmas.Iterator.{YieldsList-from_slice}
+use Rattle.std.proofs.lemmas.Iterator.Search.{position_from_yields_List}
+use Rattle.std.specs.List.{position, position_or_len}
+use Rattle.std.specs.Option.{unwrap_or}
+use Rattle.keys.specs.Keys.{key_is_long}
+use Rattle.keys.proofs.LawsCode.{when_so_many, so_many, first_in_rows, place_or_all}
 use Rattle.keys.proofs.first_long_row.Goals as goal
-
-pub returns-then-not-whole : goal.returns-then-not-whole
-returns-then-not-whole c = not_whole _ _ _ _ c.whole.ensures (ap not c.if-not-whole.true)
-
-pub loop-i-init : goal.loop-i-init
-loop-i-init c = (search rules, is_whole _ _ _ c.whole.ensures (ap not c.if-not-whole.false), omega arith)
-
-pub returns-then-is_long : goal.returns-then-is_long
-returns-then-is_long c =
-    let n = c.args.count in
-    let rows = c.args.rows.now in
-    let l = c.loop-i in
-    let h : l.i < n = omega arith in
-    let e = sym (get_or-replicate n l.i true false h) in
-    long_here (replicate n true) rows n l.i (length-replicate n true) l.invariant.2 true _ h e c.is_long.ensures c.if-is_long.true
-    ∙ when_whole _ _ _ _ l.invariant.1
-
-pub loop-i-preserved : goal.loop-i-preserved
-loop-i-preserved c =
-    let n = c.args.count in
-    let rows = c.args.rows.now in
-    let l = c.loop-i in
-    let h : l.i < n = omega arith in
-    let e = sym (get_or-replicate n l.i true false h) in (
-      search rules,
-      l.invariant.1,
-      long_turn (replicate n true) rows n l.i (length-replicate n true) l.invariant.2 true _ h e c.is_long.ensures c.if-is_long.false,
-    )
 
 pub returns : goal.returns
 returns c =
     let n = c.args.count in
-    let rows = c.args.rows.now in
-    let l = c.loop-i in
-    long_end (replicate n true) rows n l.i (length-replicate n true) l.invariant.2 (omega arith) ∙ when_whole _ _ _ _ l.invariant.1
+    let rows = c.in-Some.rows.now in
+    let found : c.position.result ≡ position key_is_long rows =
+    position_from_yields_List key_is_long _ _ c.position.result c.position.ensures.ran (YieldsList-from_slice rows c.iter.ensures.rest) (λ x b q k. search (rules, tests)) in
+    c.unwrap_or.ensures ∙ ap (λ o. unwrap_or o n) found
+    ∙ place_or_all key_is_long rows n (so_many n c.args.rows.now rows c.in-Some.ensures.1)
+    ∙ ap (position_or_len key_is_long) c.in-Some.ensures.1
+    ∙ first_in_rows n c.args.rows.now
+    ∙ when_so_many _ _ n c.in-Some.ensures.0

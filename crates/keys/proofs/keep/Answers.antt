@@ -1,62 +1,44 @@
--- The loop's invariant: the rows still to come, kept in the column as it is, are all rows kept in the column as it was. Where the column has no row for
--- the next it has none for the others. The measure is how many rows are left. Assumes nothing.
-use mathlib.Core.Bool.{not}
-use mathlib.Core.Path.{◌≡◌, refl, sym, ap, ◌∙◌}
-use Prim.Native.Nat.{◌-◌, ◌*◌}
+-- The loop's invariant: the rows still to come, kept in the column as it is, are all rows kept in the column as it was. Assumes nothing.
+use mathlib.Core.List.{[]}
+use mathlib.Core.Path.{◌≡◌, sym, ap, ◌∙◌}
+use Prim.Native.Nat.{◌+◌, ◌*◌, ◌^◌, ◌<◌}
 use native.Mathlib.Omega.{arith}
-use lib.ListN.{length, drop}
-use Rattle.carried.specs.Carried.{width, put_rows, up_from}
-use Rattle.carried.proofs.Laws.{length_put_row, put_rows_past}
-use Rattle.keys.specs.Keys.{normal_rows, stores_of}
-use Rattle.keys.proofs.Laws.{length_stores_of, get_d_stores_of}
-use Rattle.keys.proofs.LawsCode.{not_whole, is_whole, when_whole, whole_range, keep_turn, keep_end}
+use lib.ListN.{length, drop, get_or}
+use borrow.Author.Tests.{eqb-true}
 use borrow.Author.Rules.{rules}
+use Rattle.list_parts.specs.Parts.{part}
+use Rattle.carried.specs.Carried.{width, put_row}
+use Rattle.keys.specs.Keys.{normal_of, normal_rows, stores_of}
+use Rattle.keys.proofs.Laws.{length_stores_of, get_d_stores_of}
+use Rattle.keys.proofs.LawsCode.{when_so_many, so_many, row_at, keep_turn, keep_end, put_row_capped}
 use Rattle.keys.proofs.keep.Goals as goal
 
-pub returns-then-not-whole : goal.returns-then-not-whole
-returns-then-not-whole c = not_whole _ _ _ _ c.whole.ensures (ap not c.if-not-whole.true)
-
-pub loop-i-init : goal.loop-i-init
-loop-i-init c =
-    let a = c.args in
-    let n = length a.stores.now in
-    let e : n - 0 ≡ n = omega arith in (
-      search rules,
-      is_whole _ _ _ c.whole.ensures (ap not c.if-not-whole.false),
-      refl,
-      ap (λ x. put_rows width (up_from a.first x) (normal_rows (stores_of a.stores.now) a.rows.now) a.column.now) e,
-    )
-
-pub returns-then-room-index : goal.returns-then-room-index
-returns-then-room-index c =
-    let a = c.args in
-    let l = c.loop-i in
-    let left = length a.stores.now - l.i in
-    let rest = normal_rows (drop l.i (stores_of a.stores.now)) (drop (l.i * width) a.rows.now) in
-    sym (put_rows_past width l.index left rest l.column (omega arith)) ∙ l.invariant.3 ∙ when_whole _ _ _ _ l.invariant.1
-
-pub keep_row-requires : goal.keep_row-requires
-keep_row-requires c =
-    let a = c.args in
-    let l = c.loop-i in
-    whole_range a.rows.now (length a.stores.now) l.i l.invariant.1 (omega arith)
+pub bounds-stores-i : goal.bounds-stores-i
+bounds-stores-i c =
+    omega (arith, c.loop-i-test.true, so_many (length c.args.stores.now) c.args.rows.now c.in-Some.rows.now c.in-Some.ensures.1)
 
 pub loop-i-preserved : goal.loop-i-preserved
 loop-i-preserved c =
     let a = c.args in
-    let l = c.loop-i in
     let bs = a.stores.now in
-    let s = c.is_store.ensures ∙ get_d_stores_of bs l.i in
-    let e = c.keep_row.ensures in (
-      search rules,
-      l.invariant.1,
-      ap length e ∙ length_put_row width l.column l.index _ ∙ l.invariant.2,
-      keep_turn l.index (stores_of bs) a.rows.now l.column _ (length bs) l.i _ (length_stores_of bs) l.invariant.1 (omega arith) s e ∙ l.invariant.3,
-    )
+    let n = length bs in
+    let t = c.loop-i.column in
+    let i = c.loop-i.i in
+    let inside : i < n = omega (arith, c.loop-i-test.true, so_many n a.rows.now c.in-Some.rows.now c.in-Some.ensures.1) in
+    let row : get_or c.in-Some.rows.now i [] ≡ part width a.rows.now i = row_at n a.rows.now c.in-Some.rows.now i c.in-Some.ensures.1 inside in
+    let small : length t < 2 ^ 64 = search rules in
+    keep_turn a.first (stores_of bs) a.rows.now t c.keep_row.new.column n i c.is_store.result (length_stores_of bs) (eqb-true _ _ c.in-Some.ensures.0) inside
+    (c.is_store.ensures ∙ get_d_stores_of bs i)
+    (c.keep_row.ensures ∙ ap (λ x. put_row width t c.saturating_add.result (normal_of c.is_store.result x)) row
+    ∙ put_row_capped t (normal_of c.is_store.result (part width a.rows.now i)) (a.first + i) c.saturating_add.result small c.saturating_add.ensures)
+    ∙ c.loop-i.invariant
 
 pub returns : goal.returns
 returns c =
     let a = c.args in
-    let l = c.loop-i in
-    let rest = normal_rows (drop l.i (stores_of a.stores.now)) (drop (l.i * width) a.rows.now) in
-    sym (keep_end l.index (length a.stores.now) l.i rest l.column (omega arith)) ∙ l.invariant.3 ∙ when_whole _ _ _ _ l.invariant.1
+    let n = length a.stores.now in
+    let i = c.loop-i.i in
+    let many = so_many n a.rows.now c.in-Some.rows.now c.in-Some.ensures.1 in
+    let rest = normal_rows (drop i (stores_of a.stores.now)) (drop (i * width) a.rows.now) in
+    sym (keep_end (a.first + i) n i rest c.loop-i.column (omega (arith, c.loop-i-test.false, many))) ∙ c.loop-i.invariant
+    ∙ when_so_many _ _ a.column.now c.in-Some.ensures.0

@@ -1,43 +1,51 @@
--- The loop's invariant: the rows still to come, kept in the column as it is, are all rows kept in the column as it was. The measure is how many rows are
--- left. Assumes nothing.
-use mathlib.Core.Bool.{not}
-use mathlib.Core.Path.{refl, sym, ap, ◌∙◌}
-use Prim.Native.Nat.{◌*◌}
+-- The loop's invariant: the rows still to come, kept in the column as it is, are all rows kept in the column as it was. Assumes nothing.
+use mathlib.Core.List.{[], ◌∷◌, ◌++◌}
+use mathlib.Core.Path.{◌≡◌, sym, ◌∙◌}
+use Prim.Native.Nat.{◌+◌, ◌*◌}
 use native.Mathlib.Omega.{arith}
-use lib.ListN.{length, drop, get_or}
-use Rattle.carried.specs.Carried.{width}
-use Rattle.carried.proofs.Laws.{length_put_row}
-use Rattle.keys.specs.Keys.{normal_rows, all_stored}
-use Rattle.keys.proofs.LawsCode.{not_whole, is_whole, when_whole, whole_range, put_at_turn, put_at_end}
+use lib.ListN.{length, drop, get_or, length-append}
+use borrow.Author.Tests.{eqb-true}
 use borrow.Author.Rules.{rules}
+use Rattle.std.specs.Iterator.Adapters.{zip_first, zip_second}
+use Rattle.std.specs.Slice.Iter.{iter_rest}
+use Rattle.std.proofs.lemmas.Slice.Zip.{zip_turn, zip_end}
+use Rattle.list_parts.specs.Parts.{part}
+use Rattle.carried.specs.Carried.{width, put_row}
+use Rattle.keys.specs.Keys.{normal, normal_rows, all_stored}
+use Rattle.keys.proofs.LawsCode.{when_so_many, so_many, row_at, put_at_turn, put_at_end}
 use Rattle.keys.proofs.put_at.Goals as goal
 
-pub returns-then-not-whole : goal.returns-then-not-whole
-returns-then-not-whole c = not_whole _ _ _ _ c.whole.ensures (ap not c.if-not-whole.true)
-
-pub loop-i-init : goal.loop-i-init
-loop-i-init c = (search rules, is_whole _ _ _ c.whole.ensures (ap not c.if-not-whole.false), refl, refl)
-
-pub keep_row-requires : goal.keep_row-requires
-keep_row-requires c =
+pub loop-row-preserved : goal.loop-row-preserved
+loop-row-preserved c =
     let a = c.args in
-    let l = c.loop-i in
-    whole_range a.rows.now (length a.ids.now) l.i l.invariant.1 (omega arith)
-
-pub loop-i-preserved : goal.loop-i-preserved
-loop-i-preserved c =
-    let a = c.args in
-    let l = c.loop-i in
-    let e = c.keep_row.ensures in (
-      search rules,
-      l.invariant.1,
-      ap length e ∙ length_put_row width l.column (get_or a.ids.now l.i 0) _ ∙ l.invariant.2,
-      put_at_turn a.ids.now a.rows.now l.column _ l.i l.invariant.1 (omega arith) e ∙ l.invariant.3,
-    )
+    let ids = a.ids.now in
+    let rows = c.in-Some.rows.now in
+    let xs = c.loop-row.yielded in
+    let i = length xs in
+    let t = c.loop-row.column in
+    let it = c.into_iter-row-iterator.result in
+    let first : iter_rest (zip_first it) ≡ rows = search rules in
+    let second : iter_rest (zip_second it) ≡ ids = search rules in
+    let turn = zip_turn rows ids xs it c.loop-row.row-iterator c.next.new.self c.next.result first second c.loop-row.yielded_by (c.in-Some-2.row, c.in-Some-2.id) c.in-Some-2.is c.next.ensures.steps in
+    let row : c.in-Some-2.row.now ≡ part width a.rows.now i =
+    turn.2 [] ∙ row_at (length ids) a.rows.now rows i c.in-Some.ensures.1 turn.1 in
+    let id : c.in-Some-2.id.now ≡ get_or ids i 0 = turn.3 0 in
+    let more : length (xs ++ ((c.in-Some-2.row, c.in-Some-2.id) ∷ [])) ≡ i + 1 = length-append xs ((c.in-Some-2.row, c.in-Some-2.id) ∷ []) in
+    rw more (put_at_turn ids a.rows.now t c.keep_row.new.column i (eqb-true _ _ c.in-Some.ensures.0) turn.1
+    (c.keep_row.ensures ∙ (λ j. put_row width t (id j) (normal (row j)))) ∙ c.loop-row.invariant)
 
 pub returns : goal.returns
 returns c =
     let a = c.args in
-    let l = c.loop-i in
-    let rest = normal_rows (drop l.i (all_stored a.ids.now)) (drop (l.i * width) a.rows.now) in
-    sym (put_at_end a.ids.now rest l.column l.i (omega arith)) ∙ l.invariant.3 ∙ when_whole _ _ _ _ l.invariant.1
+    let ids = a.ids.now in
+    let rows = c.in-Some.rows.now in
+    let xs = c.loop-row.yielded in
+    let i = length xs in
+    let it = c.into_iter-row-iterator.result in
+    let first : iter_rest (zip_first it) ≡ rows = search rules in
+    let second : iter_rest (zip_second it) ≡ ids = search rules in
+    let end = zip_end rows ids xs it c.loop-row.row-iterator c.next.new.self c.next.result first second c.loop-row.yielded_by c.in-None.is c.next.ensures.steps in
+    let many = so_many (length ids) a.rows.now rows c.in-Some.ensures.1 in
+    let rest = normal_rows (drop i (all_stored ids)) (drop (i * width) a.rows.now) in
+    sym (put_at_end ids rest c.loop-row.column i (omega (arith, end, many))) ∙ c.loop-row.invariant
+    ∙ when_so_many _ _ a.column.now c.in-Some.ensures.0

@@ -1,17 +1,21 @@
+-- std reads the bytes of each width as `word` does. Assumes nothing.
 use mathlib.Core.Path.{◌∙◌}
-use Prim.Native.Nat.{◌^◌}
 use native.Mathlib.Omega.{arith}
-use Rattle.little_endian.proofs.Laws.{word_cons, word_whole}
+use Rattle.little_endian.proofs.Laws.{word_first, word_whole}
 use Rattle.little_endian.proofs.get.Goals as goal
 
-pub returns-then-bytes-eq4 : goal.returns-then-bytes-eq4
-returns-then-bytes-eq4 c = word_whole _ 4 (2 ^ 32) _ c.if-bytes-eq4.true (omega arith) c.four.ensures.1
+pub returns-in-Some : goal.returns-in-Some
+returns-in-Some c = word_first c.args.bytes.now _ _ c.in-Some.ensures.cases.same c.from_le_bytes.ensures
 
-pub returns-then-bytes-eq2 : goal.returns-then-bytes-eq2
-returns-then-bytes-eq2 c = word_whole _ 2 (2 ^ 16) _ c.if-bytes-eq2.true (omega arith) c.pair.ensures.1
+pub returns-in-Some-as_array : goal.returns-in-Some-as_array
+returns-in-Some-as_array c =
+    let e = c.in-Some-as_array.ensures.cases in
+    c.from.ensures ∙ word_whole 3 c.args.bytes.now _ e.long (omega arith) (rw e.same at c.from_le_bytes-in-Some-as_array.ensures)
 
-pub returns-then-bytes-eq1 : goal.returns-then-bytes-eq1
-returns-then-bytes-eq1 c =
-    let l = c.args.bytes.now in
-    let one = c.if-bytes-eq1.true in
-    c.wide.ensures.0 ∙ word_whole l 1 256 _ one (omega arith) (word_cons l 0 (omega arith))
+pub returns-in-Some-as_array-2 : goal.returns-in-Some-as_array-2
+returns-in-Some-as_array-2 c =
+    let e = c.in-Some-as_array-2.ensures.cases in
+    c.from-in-Some-as_array-2.ensures ∙ word_whole 1 c.args.bytes.now _ e.long (omega arith) (rw e.same at c.from_le_bytes-in-Some-as_array-2.ensures)
+
+pub returns-in-len1 : goal.returns-in-len1
+returns-in-len1 c = word_whole 0 c.args.bytes.now _ (omega arith) (omega arith) c.from-in-len1.ensures

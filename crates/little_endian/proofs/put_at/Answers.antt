@@ -1,4 +1,3 @@
-use borrow.Author.Tests.{leb-true}
 use mathlib.Core.Path.{ap, ◌∙◌}
 use mathlib.Core.List.{List, ◌++◌}
 use Prim.Native.Nat.{ℕ}
@@ -18,10 +17,10 @@ returns-then-end-bytes c =
     let end = c.args.end in
     let number = c.args.number in
     let h = c.if-start-end.true in
-    let e = c.if-end-bytes.true-raw in
+    let e = c.if-end-bytes.true in
     put_range l start end h c.put.new.bytes
-    ∙ ap (λ (ys : List ℕ). take start l ++ (ys ++ drop end l)) (c.put.ensures ∙ ap (λ (k : ℕ). bytes_of k number) (length_range l start end h (leb-true _ _ e)))
-    ∙ simp (le-leb _ _ h, e)
+    ∙ ap (λ (ys : List ℕ). take start l ++ (ys ++ drop end l)) (c.put.ensures ∙ ap (λ (k : ℕ). bytes_of k number) (length_range l start end h e))
+    ∙ simp (le-leb _ _ h, le-leb _ _ e)
 
 pub returns-else-start-end : goal.returns-else-start-end
 unfolding put_at

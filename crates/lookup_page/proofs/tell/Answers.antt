@@ -1,19 +1,12 @@
 -- The invariant: the rows of the ids from p on, put into the lists as they are now, give what the rows of all ids give in the lists as they were.
 -- Assumes nothing.
 use mathlib.Core.Path.{sym, ap, ◌∙◌}
-use native.Mathlib.Omega.{arith}
 use lib.ListN.{length, length-set}
 use Rattle.carried.specs.Carried.{width}
 use Rattle.carried.proofs.Laws.{length_put_row}
 use Rattle.lookup_page.specs.Rows.{told_in, put_number, put_location, put_carried}
 use Rattle.lookup_page.proofs.Laws.{told_row, written_turn, written_end}
 use Rattle.lookup_page.proofs.tell.Goals as goal
-
-pub overflow_add-p : goal.overflow_add-p
-overflow_add-p c =
-    let t = c.loop-p-test.true in
-    let pre = c.requires in
-    omega (arith, t, pre.0)
 
 pub loop-p-preserved : goal.loop-p-preserved
 loop-p-preserved c =

@@ -1,6 +1,5 @@
 use mathlib.Core.List.{map}
 use mathlib.Core.Path.{◌≡◌}
-use Prim.Native.Nat.{◌-◌}
 use lib.ListN.{length, drop}
 use Rattle.lookup_page.specs.Rows.{told_in, put_number, put_location, put_carried, written}
 use Rattle.lookup_page.proofs.tell.Given as goal
@@ -14,6 +13,3 @@ invariant-loop-p l =
     ≡ written put_location l.initial.found 0 (map (told_in l.caps.ids l.caps.slots l.id_marks l.locations l.slot_marks l.owners l.tallies l.carried) l.asked))
     × (written put_carried l.rows l.p (map (told_in l.caps.ids l.caps.slots l.id_marks l.locations l.slot_marks l.owners l.tallies l.carried) (drop l.p l.asked))
     ≡ written put_carried l.initial.rows 0 (map (told_in l.caps.ids l.caps.slots l.id_marks l.locations l.slot_marks l.owners l.tallies l.carried) l.asked)))
-
-abbrev pub decreases-loop-p : goal.decreases-loop-p
-decreases-loop-p l = length l.asked - l.p

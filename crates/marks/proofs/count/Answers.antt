@@ -1,40 +1,20 @@
--- `marks::count` meets its contract. The loop's invariant: what is counted, with the count of the rest, is the count of all. The measure is what
--- is left of the slice. Assumes nothing.
-use mathlib.Core.Path.{◌≡◌}
-use Prim.Native.Nat.{◌+◌, ◌-◌}
-use native.Mathlib.Omega.{arith}
-use lib.ListN.{length-take, length-drop}
+-- `count` meets its contract. The loop's invariant: what is counted and what is left to count make the count of all. Assumes nothing.
+use Rattle.std.proofs.Common.{◌≡◌, take, arith}
+use Rattle.marks.specs.Marks.{count_if}
 use Rattle.marks.specs.Turned.{is_mark}
-use Rattle.marks.proofs.LawsCount.{count_if_block, count_if_rest, count_if_le}
+use Rattle.marks.proofs.LawsCount.{count_if_split, count_if_le}
 use Rattle.marks.proofs.count.Goals as goal
 
-pub count_part-requires : goal.count_part-requires
-count_part-requires c = simp (length-take, length-drop) (omega arith)
+pub loop-part-preserved : goal.loop-part-preserved
+loop-part-preserved c =
+    let p = is_mark c.args.mark in
+    let counted : c.count_part.result ≡ count_if p (take 192 c.loop-part.left.now) = rw (← c.in-Some.ensures.cases.0) c.count_part.ensures in
+    rw (c.in-Some.ensures.cases.1) (omega (arith, counted, c.loop-part.invariant, count_if_split p c.loop-part.left.now 192))
 
 pub overflow_add-n : goal.overflow_add-n
-overflow_add-n c =
-    let a = c.args in
-    let p = is_mark a.mark in
-    let width : c.loop-i.i + 192 - c.loop-i.i ≡ 192 = omega arith in
-    omega (arith, rw width at c.count_part.ensures, count_if_block p a.marks.now c.loop-i.i 192, count_if_le p a.marks.now)
-
-pub loop-i-preserved : goal.loop-i-preserved
-loop-i-preserved c =
-    let a = c.args in
-    let p = is_mark a.mark in
-    let width : c.loop-i.i + 192 - c.loop-i.i ≡ 192 = omega arith in
-    omega (arith, rw width at c.count_part.ensures, count_if_block p a.marks.now c.loop-i.i 192)
-
-pub count_part-requires-2 : goal.count_part-requires-2
-count_part-requires-2 c = simp (length-take, length-drop) (omega arith)
+overflow_add-n c = omega (arith, loop-part-preserved c, count_if_le (is_mark c.args.mark) c.args.marks.now)
 
 pub overflow_add-result : goal.overflow_add-result
 overflow_add-result c =
-    let a = c.args in
-    let p = is_mark a.mark in
-    omega (arith, c.count_part-2.ensures, count_if_rest p a.marks.now c.loop-i.i, count_if_le p a.marks.now)
-
-pub returns : goal.returns
-returns c =
-    let a = c.args in
-    omega (arith, c.count_part-2.ensures, count_if_rest (is_mark a.mark) a.marks.now c.loop-i.i)
+    let p = is_mark c.args.mark in
+    omega (arith, c.count_part-2.ensures, c.loop-part.invariant, count_if_le p c.args.marks.now)

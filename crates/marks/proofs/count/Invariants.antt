@@ -1,12 +1,10 @@
-use mathlib.Core.Path.{◌≡◌}
-use Prim.Native.Nat.{◌+◌, ◌≤◌, ◌-◌}
-use lib.ListN.{length, drop}
+use Rattle.std.proofs.Common.{◌≡◌, length, ◌+◌}
 use Rattle.marks.specs.Marks.{count_if}
 use Rattle.marks.specs.Turned.{is_mark}
 use Rattle.marks.proofs.count.Given as goal
 
-abbrev pub invariant-loop-i : goal.invariant-loop-i
-invariant-loop-i l = (l.i ≤ length l.marks) × (l.n + count_if (is_mark l.mark) (drop l.i l.marks) ≡ count_if (is_mark l.mark) l.marks)
+abbrev pub invariant-loop-part : goal.invariant-loop-part
+invariant-loop-part l = l.n + count_if (is_mark l.mark) l.left ≡ count_if (is_mark l.mark) l.marks
 
-abbrev pub decreases-loop-i : goal.decreases-loop-i
-decreases-loop-i l = length l.marks - l.i
+abbrev pub decreases-loop-part : goal.decreases-loop-part
+decreases-loop-part l = length l.left

@@ -1,11 +1,7 @@
-use mathlib.Core.Path.{◌≡◌}
-use Prim.Native.Nat.{◌≤◌, ◌-◌}
+use Rattle.std.proofs.Common.{◌≡◌, ◌-◌}
 use Rattle.address.specs.Address.{slabs}
 use Rattle.offer_room.specs.Room.{room_in}
 use Rattle.offer_room.proofs.room.Given as goal
 
 abbrev pub invariant-loop-slab : goal.invariant-loop-slab
-invariant-loop-slab l = (l.slab ≤ slabs) × (room_in l.slots l.slot_marks l.tallies l.asked (slabs - l.slab) l.slab ≡ room_in l.slots l.slot_marks l.tallies l.asked slabs 0)
-
-abbrev pub decreases-loop-slab : goal.decreases-loop-slab
-decreases-loop-slab l = slabs - l.slab
+invariant-loop-slab l = room_in l.slots l.slot_marks l.tallies l.asked (slabs - l.slab) l.slab ≡ room_in l.slots l.slot_marks l.tallies l.asked slabs 0

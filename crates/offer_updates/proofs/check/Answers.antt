@@ -1,7 +1,6 @@
 -- `updates::check` meets its contract. The loop's invariant: the check of the updates left is the check of all, and every id so far has its byte
 -- set (so a byte that is not set says that the id is new). The measure is the updates left. Assumes nothing.
 use mathlib.Core.Path.{refl, sym, ap, ◌∙◌}
-use native.Mathlib.Omega.{arith}
 use lib.ListN.{get_or}
 use Rattle.refusal.specs.declared.Refusal.{Refusal}
 use Rattle.refusal.proofs.Tests.{clash}

@@ -3,10 +3,13 @@ use mathlib.Core.Path.{sym, ap, ◌∙◌}
 use native.Mathlib.Nat.{zero-add}
 use lib.ListN.{get_or}
 use Rattle.address.specs.Address.{unpacked}
+use Rattle.address.proofs.Laws.{none_unpacked, none_refused}
 use Rattle.reason.specs.Read.{without_address}
 use Rattle.reason.proofs.Laws.{object_free, object_none, object_own, object_other}
 use Rattle.reason.proofs.object_of.Goals as goal
-use Rattle.std.specs.Prelude.{Err}
+use Rattle.reason.proofs.object_of.Goals.{in_default-via-in-Ok+in_default, in_default-via-in_default}
+use Rattle.std.specs.Prelude.{Ok, Err}
+use Rattle.std.proofs.Common.{rules}
 
 pub returns-then-not-held_id : goal.returns-then-not-held_id
 returns-then-not-held_id c =
@@ -16,17 +19,22 @@ returns-then-not-held_id c =
 pub returns-in_default : goal.returns-in_default
 returns-in_default c =
     let a = c.args in
+    let u = c.unpack.result in
     let held = sym c.held_id.ensures ∙ c.if-not-held_id.false in
     let location = c.get-location.ensures ∙ ap (λ n. get_or a.locations.now n 0) (zero-add a.id) in
+    let none = object_none a.caps.ids a.caps.slots a.id_marks.now a.locations.now a.slot_marks.now a.owners.now a.tallies.now a.id held u (c.unpack.ensures ∙ ap (unpacked a.caps.slots) location) in
     c.without_address.ensures ∙ ap without_address location
-    ∙ object_none a.caps.ids a.caps.slots a.id_marks.now a.locations.now a.slot_marks.now a.owners.now a.tallies.now a.id held c.unpack.result (c.unpack.ensures ∙ ap (unpacked a.caps.slots) location) c.in_default.not-At
+    ∙ elim c.in_default.branch [
+      | in_default-via-in-Ok+in_default w ↦ none (none_unpacked u (search rules))
+      | in_default-via-in_default w ↦ none (none_refused u _ w.in_default.is)
+    ]
 
 pub returns-then-not-is_owner : goal.returns-then-not-is_owner
 returns-then-not-is_owner c =
     let a = c.args in
     let held = sym c.held_id.ensures ∙ c.if-not-held_id.false in
     let location = c.get-location.ensures ∙ ap (λ n. get_or a.locations.now n 0) (zero-add a.id) in
-    let at = sym (c.unpack.ensures ∙ ap (unpacked a.caps.slots) location) ∙ c.in-At.is in
+    let at = sym (c.unpack.ensures ∙ ap (unpacked a.caps.slots) location) ∙ c.in-Ok-Some.is ∙ ap Ok c.in-Ok-Some.field-0-is in
     ap Err c.of.ensures
     ∙ object_other a.caps.ids a.caps.slots a.id_marks.now a.locations.now a.slot_marks.now a.owners.now a.tallies.now a.id held _ at (sym c.is_owner.ensures ∙ c.if-not-is_owner.true)
 
@@ -35,5 +43,5 @@ returns c =
     let a = c.args in
     let held = sym c.held_id.ensures ∙ c.if-not-held_id.false in
     let location = c.get-location.ensures ∙ ap (λ n. get_or a.locations.now n 0) (zero-add a.id) in
-    let at = sym (c.unpack.ensures ∙ ap (unpacked a.caps.slots) location) ∙ c.in-At.is in
+    let at = sym (c.unpack.ensures ∙ ap (unpacked a.caps.slots) location) ∙ c.in-Ok-Some.is ∙ ap Ok c.in-Ok-Some.field-0-is in
     object_own a.caps.ids a.caps.slots a.id_marks.now a.locations.now a.slot_marks.now a.owners.now a.tallies.now a.id held _ at (sym c.is_owner.ensures ∙ c.if-not-is_owner.false)

@@ -1,30 +1,26 @@
--- `rows::first_refused` meets its contract: what does not fit is refused, else the rows are looked at. Assumes nothing.
-use mathlib.Core.Path.{ap, sym, ◌∙◌}
-use mathlib.Core.Bool.{not, ◌&&◌}
-use lib.Dec.{eqb}
-use lib.ListN.{length}
-use Rattle.rebuild_rows.proofs.Checked.{fitting, refused_row_wrong, refused_row_fit}
+-- What does not fit is refused, else the rows are looked at. Assumes nothing.
+use mathlib.Core.Logic.{⊎_elim}
+use mathlib.Core.Path.{sym, ap, ◌∙◌}
+use Rattle.address.proofs.Laws.{slots_range}
+use Rattle.std.specs.Prelude.{Err}
+use Rattle.rebuild_rows.proofs.Checked.{refused_row_slots, refused_row_long, refused_row_fit}
 use Rattle.rebuild_rows.proofs.first_refused.Goals as goal
 
-pub returns-then-not-both : goal.returns-then-not-both
-returns-then-not-both c =
+pub returns-then-bad_slots : goal.returns-then-bad_slots
+returns-then-bad_slots c =
     let a = c.args in
-    let is = a.ids.now in
-    let ls = a.row_locations.now in
-    refused_row_wrong a.caps.ids a.caps.slots is ls (sym (c.both.ensures ∙ ap (λ b. not b && eqb (length ls) (length is)) c.bad_slots.ensures) ∙ c.if-not-both.true)
+    let same = sym c.bad_slots.ensures in
+    ap Err c.of.ensures
+    ∙ ⊎_elim (λ w. refused_row_slots a.caps.ids a.caps.slots a.ids.now a.row_locations.now (same ∙ w))
+    (λ w. refused_row_long a.caps.ids a.caps.slots a.ids.now a.row_locations.now (same ∙ w.0) w.1) c.then-bad_slots.either
 
 pub first_of-requires : goal.first_of-requires
 first_of-requires c =
-    let a = c.args in
-    let is = a.ids.now in
-    let ls = a.row_locations.now in
-    let f = fitting a.caps.ids a.caps.slots is ls (sym (c.both.ensures ∙ ap (λ b. not b && eqb (length ls) (length is)) c.bad_slots.ensures) ∙ c.if-not-both.false) in
-    (f.good, f.most, f.long)
+    let good = sym c.bad_slots.ensures ∙ c.if-bad_slots.false in
+    (good, (slots_range _ good).1, c.if-row_locations-ids.false)
 
 pub returns : goal.returns
 returns c =
     let a = c.args in
-    let is = a.ids.now in
-    let ls = a.row_locations.now in
-    let f = fitting a.caps.ids a.caps.slots is ls (sym (c.both.ensures ∙ ap (λ b. not b && eqb (length ls) (length is)) c.bad_slots.ensures) ∙ c.if-not-both.false) in
-    c.first_of.ensures ∙ sym (refused_row_fit a.caps.ids a.caps.slots is ls f.good f.long)
+    c.first_of.ensures
+    ∙ sym (refused_row_fit a.caps.ids a.caps.slots a.ids.now a.row_locations.now (sym c.bad_slots.ensures ∙ c.if-bad_slots.false) c.if-row_locations-ids.false)

@@ -1,4 +1,4 @@
--- `rows::first_repeat_by` meets its contract. The loop's invariant: the groups left, before the present end, give the first repeat. The measure is how many groups are left. Assumes nothing.
+-- The loop's invariant: the groups left, before the present end, give the first repeat. Assumes nothing.
 use lib.Seq.{length-take-le}
 use Prim.Native.Nat.{◌+◌, ◌-◌}
 use mathlib.Core.Path.{ap, sym, ◌∙◌}
@@ -11,7 +11,7 @@ use borrow.Author.Rules.{rules}
 use Rattle.rebuild_rows.proofs.first_repeat_by.Goals as goal
 
 pub slice_bounds-first_in-end : goal.slice_bounds-first_in-end
-slice_bounds-first_in-end c = sym (length-take-le c.loop-group.end c.args.locations.now c.loop-group.invariant.1)
+slice_bounds-first_in-end c = sym (length-take-le c.loop-group.end c.args.locations.now c.loop-group.invariant.0)
 
 pub loop-group-preserved : goal.loop-group-preserved
 loop-group-preserved c =
@@ -20,15 +20,14 @@ loop-group-preserved c =
     let ls = a.locations.now in
     let e = c.first_in-end.ensures in
     let n = length a.marks.now in (
+      omega (arith, e, repeat_in_take b.group (replicate (length b.marks) 0) 0 b.end ls b.invariant.0),
       search rules,
-      omega (arith, e, repeat_in_take b.group (replicate (length b.marks) 0) 0 b.end ls b.invariant.1),
-      search rules,
-      ap (repeats_from n ls (groups - (b.group + 1)) (b.group + 1)) (e ∙ ap (λ x. repeat_in b.group (replicate x 0) 0 (take b.end ls)) b.invariant.2)
-          ∙ sym (repeats_from_turn n ls b.group b.end (omega arith)) ∙ b.invariant.3,
+      ap (repeats_from n ls (groups - (b.group + 1)) (b.group + 1)) (e ∙ ap (λ x. repeat_in b.group (replicate x 0) 0 (take b.end ls)) b.invariant.1)
+          ∙ sym (repeats_from_turn n ls b.group b.end (omega arith)) ∙ b.invariant.2,
     )
 
 pub returns : goal.returns
 returns c =
     let a = c.args in
     let b = c.loop-group in
-    sym (repeats_from_end (length a.marks.now) a.locations.now b.group b.end (omega arith)) ∙ b.invariant.3
+    sym (repeats_from_end (length a.marks.now) a.locations.now b.group b.end (omega arith)) ∙ b.invariant.2

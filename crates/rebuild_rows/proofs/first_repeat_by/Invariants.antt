@@ -6,8 +6,5 @@ use Rattle.rebuild_rows.proofs.first_repeat_by.Given as goal
 
 abbrev pub invariant-loop-group : goal.invariant-loop-group
 invariant-loop-group l =
-    (l.group ≤ groups) × (l.end ≤ length l.locations) × (length l.marks ≡ length l.initial.marks)
+    (l.end ≤ length l.locations) × (length l.marks ≡ length l.initial.marks)
     × (repeats_from (length l.initial.marks) l.locations (groups - l.group) l.group l.end ≡ repeats_from (length l.initial.marks) l.locations groups 0 (length l.locations))
-
-abbrev pub decreases-loop-group : goal.decreases-loop-group
-decreases-loop-group l = groups - l.group

@@ -1,29 +1,22 @@
--- `release::release_slabs` meets its contract. The loop's invariant: `start` is where the slab's marks begin, and to release the slabs that
--- are left, from the tables as they are now, is to release all from the tables as they were; one turn is the law release_turn. The measure
--- is the number of slabs left. Assumes nothing.
+-- The loop's invariant: to release the slabs that are left, from the tables as they are now, is to release all from the tables as they were.
+-- One turn is the law release_turn. Assumes nothing.
 use mathlib.Core.Path.{refl, ◌∙◌}
 use Prim.Native.Nat.{◌-◌}
 use native.Mathlib.Omega.{arith}
 use Rattle.address.specs.Address.{slabs}
-use Rattle.release.proofs.Laws.{start_next, start_within, release_turn, release_end}
+use Rattle.release.proofs.Laws.{start_within, release_turn, release_end}
 use borrow.Author.Rules.{rules}
 use Rattle.release.proofs.release_slabs.Goals as goal
 
-pub loop-slab-init : goal.loop-slab-init
-loop-slab-init c = (search rules, search rules, search rules, search rules, refl)
-
-pub overflow_add-end : goal.overflow_add-end
-overflow_add-end c = let w = start_within c.args.slots c.loop-slab.slab c.loop-slab.start c.loop-slab.invariant.1 (omega arith) in omega arith
-
 pub slice_bounds-release_allocator-end : goal.slice_bounds-release_allocator-end
-slice_bounds-release_allocator-end c = let w = start_within c.args.slots c.loop-slab.slab c.loop-slab.start c.loop-slab.invariant.1 (omega arith) in omega arith
+slice_bounds-release_allocator-end c = let w = start_within c.args.slots c.loop-slab.slab _ refl (omega arith) in omega arith
 
 pub loop-slab-preserved : goal.loop-slab-preserved
 loop-slab-preserved c =
     let a = c.args in
     let l = c.loop-slab in
-    let turn = release_turn a.slots l.slab l.start l.slot_marks l.tallies _ _ (omega arith) l.invariant.1 c.release_allocator.ensures.0 c.release_allocator.ensures.1 in
-    (search rules, start_next a.slots l.slab l.start l.invariant.1, search rules, search rules, turn ∙ l.invariant.4)
+    let turn = release_turn a.slots l.slab _ l.slot_marks l.tallies _ _ (omega arith) refl c.release_allocator.ensures.0 c.release_allocator.ensures.1 in
+    (search rules, search rules, turn ∙ l.invariant.2)
 
 pub returns : goal.returns
-returns c = release_end _ (slabs - c.loop-slab.slab) c.loop-slab.slab _ (omega arith) ∙ c.loop-slab.invariant.4
+returns c = release_end _ (slabs - c.loop-slab.slab) c.loop-slab.slab _ (omega arith) ∙ c.loop-slab.invariant.2

@@ -1,23 +1,16 @@
--- The loop's invariant: all bytes are zero exactly if the numbers so far are and the bytes still to come are. The measure is what is left.
--- Assumes nothing.
-use mathlib.Core.Path.{refl, sym, ◌∙◌}
+-- The fold joins the words, and they are all the bytes. Assumes nothing.
+use mathlib.Core.Path.{◌≡◌}
+use Prim.Native.Nat.{◌/◌}
 use native.Mathlib.Omega.{arith}
-use Rattle.zeros.proofs.Laws.{all_zero_get, length_turn, all_zero_turn, all_zero_end}
+use lib.ListN.{length}
+use Rattle.std.specs.List.{fold}
+use Rattle.std.specs.Simd.{first_chunks}
 use borrow.Author.Rules.{rules}
+use Rattle.zeros.proofs.Laws.{join_word, joined_words}
 use Rattle.zeros.proofs.joined.Goals as goal
-
-pub loop-i-init : goal.loop-i-init
-loop-i-init c = (search rules, search rules, refl)
-
-pub loop-i-preserved : goal.loop-i-preserved
-loop-i-preserved c =
-    let l = c.args.bytes.now in
-    let any = c.loop-i.any in
-    let i = c.loop-i.i in
-    let inv = c.loop-i.invariant in
-    (search rules, omega arith, inv.2 ∙ all_zero_turn l i 8 any c.get-any.result (all_zero_get _ _ (length_turn l i) c.get-any.ensures))
 
 pub returns : goal.returns
 returns c =
     let l = c.args.bytes.now in
-    sym (c.loop-i.invariant.2 ∙ all_zero_end l c.loop-i.i c.loop-i.any (search rules))
+    let e : c.fold.result ≡ fold join_word 0 (first_chunks 8 (length l / 8) l) = search rules in
+    rw e (joined_words (length l / 8) l 0 (omega arith))

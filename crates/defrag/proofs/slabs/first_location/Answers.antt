@@ -9,10 +9,10 @@ returns-in_default c = sym (made_none _ _ _ _ (sym c.from_slab_slot.ensures ∙ 
 
 pub returns-in_default-pack : goal.returns-in_default-pack
 returns-in_default-pack c =
-    let made = made_packed _ _ _ _ (sym c.from_slab_slot.ensures ∙ c.in-At.is) in
+    let made = made_packed _ _ _ _ (sym c.from_slab_slot.ensures ∙ c.in-Ok.is) in
     ap location_in (sym c.in_default-pack.is ∙ c.pack.ensures ∙ made)
 
 pub returns : goal.returns
 returns c =
-    let made = made_packed _ _ _ _ (sym c.from_slab_slot.ensures ∙ c.in-At.is) in
-    ap location_in (sym c.in-Location.is ∙ c.pack.ensures ∙ made)
+    let made = made_packed _ _ _ _ (sym c.from_slab_slot.ensures ∙ c.in-Ok.is) in
+    ap location_in (sym c.in-Ok-pack.is ∙ c.pack.ensures ∙ made)

@@ -9,11 +9,8 @@ use Rattle.defrag.proofs.slabs.list_all.Given as goal
 
 abbrev pub invariant-loop-slab : goal.invariant-loop-slab
 invariant-loop-slab l =
-    (l.slab ≤ slabs) × (l.n ≤ l.slab * most_slots)
+    (l.n ≤ l.slab * most_slots)
     × (length l.moved_ids ≡ length l.initial.moved_ids) × (length l.moved_locations ≡ length l.initial.moved_locations)
     × (l.n + length (listed_from l.slots l.locations l.slot_marks l.owners l.tallies l.r (slabs - l.slab) l.slab) ≡ length (listed_from l.slots l.locations l.slot_marks l.owners l.tallies l.r slabs 0))
     × (sets l.moved_ids l.n (ids_of (listed_from l.slots l.locations l.slot_marks l.owners l.tallies l.r (slabs - l.slab) l.slab)) ≡ sets l.initial.moved_ids 0 (ids_of (listed_from l.slots l.locations l.slot_marks l.owners l.tallies l.r slabs 0)))
     × (sets l.moved_locations l.n (locations_of (listed_from l.slots l.locations l.slot_marks l.owners l.tallies l.r (slabs - l.slab) l.slab)) ≡ sets l.initial.moved_locations 0 (locations_of (listed_from l.slots l.locations l.slot_marks l.owners l.tallies l.r slabs 0)))
-
-abbrev pub decreases-loop-slab : goal.decreases-loop-slab
-decreases-loop-slab l = slabs - l.slab

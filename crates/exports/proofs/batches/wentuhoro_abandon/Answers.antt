@@ -1,14 +1,10 @@
 use mathlib.Core.Path.{◌∙◌}
 use Rattle.model.specs.Store.{finished_answer}
-use Rattle.exports.proofs.Laws.{told_status}
+use Rattle.model.proofs.Outcomes.{finished_answer_outcome}
+use Rattle.exports.proofs.Laws.{finished_status}
 use Rattle.exports.proofs.batches.wentuhoro_abandon.Goals as goal
 
-pub returns-in-Done : goal.returns-in-Done
-returns-in-Done c =
+pub returns : goal.returns
+returns c =
     let e = c.abandon.ensures in
-    record { status = told_status finished_answer _ _ _ e.answers c.in-Done.is; tables_after = e.leaves }
-
-pub returns-in-Refused : goal.returns-in-Refused
-returns-in-Refused c =
-    let e = c.abandon.ensures in
-    record { status = c.status.ensures ∙ told_status finished_answer _ _ _ e.answers c.in-Refused.is; tables_after = e.leaves }
+    record { status = c.finished.ensures ∙ finished_status finished_answer finished_answer_outcome _ _ e.answers; tables_after = e.leaves }

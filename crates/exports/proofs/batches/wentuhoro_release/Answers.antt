@@ -1,14 +1,10 @@
 use mathlib.Core.Path.{◌∙◌}
 use Rattle.model.specs.Store.{finished_answer}
-use Rattle.exports.proofs.Laws.{told_status}
+use Rattle.model.proofs.Outcomes.{finished_answer_outcome}
+use Rattle.exports.proofs.Laws.{finished_status}
 use Rattle.exports.proofs.batches.wentuhoro_release.Goals as goal
 
-pub returns-in-Done : goal.returns-in-Done
-returns-in-Done c =
+pub returns : goal.returns
+returns c =
     let e = c.release.ensures in
-    record { status = told_status finished_answer _ _ _ e.result_value c.in-Done.is; tables_after = e.tallies_after }
-
-pub returns-in-Refused : goal.returns-in-Refused
-returns-in-Refused c =
-    let e = c.release.ensures in
-    record { status = c.status.ensures ∙ told_status finished_answer _ _ _ e.result_value c.in-Refused.is; tables_after = e.tallies_after }
+    record { status = c.finished.ensures ∙ finished_status finished_answer finished_answer_outcome _ _ e.result_value; tables_after = e.tallies_after }

@@ -9,16 +9,16 @@ use Rattle.refusal.specs.declared.Refusal.{Refusal}
 pub returns-then-slab-ne1 : goal.returns-then-slab-ne1
 returns-then-slab-ne1 c = exported_short 1 c.args.slab.now _ c.if-slab-ne1.true
 
-pub returns-in-Slab : goal.returns-in-Slab
-returns-in-Slab c =
+pub returns-in-Ok : goal.returns-in-Ok
+returns-in-Ok c =
     let lent = c.args.slab.now in
-    let e = sym c.slab_for_size.ensures ∙ c.in-Slab.is in
+    let e = sym c.slab_for_size.ensures ∙ c.in-Ok.is in
     exported_is 1 lent _ _ _ c.if-slab-ne1.false (ap (λ (x : Result ℕ Refusal). status_of (class_outcome x)) e)
     (ap (λ (x : Result ℕ Refusal). values_in (class_outcome x) lent) e ∙ one_word lent _ c.if-slab-ne1.false)
 
-pub returns-in-Refused : goal.returns-in-Refused
-returns-in-Refused c =
+pub returns-in-Err : goal.returns-in-Err
+returns-in-Err c =
     let lent = c.args.slab.now in
-    let e = sym c.slab_for_size.ensures ∙ c.in-Refused.is in
+    let e = sym c.slab_for_size.ensures ∙ c.in-Err.is in
     exported_is 1 lent _ _ _ c.if-slab-ne1.false (ap (λ (x : Result ℕ Refusal). status_of (class_outcome x)) e ∙ sym c.status.ensures)
     (ap (λ (x : Result ℕ Refusal). values_in (class_outcome x) lent) e)

@@ -8,16 +8,16 @@ returns-then-id-ne1 c =
     let lent = c.args.id.now in
     record { answers = exported_short 1 lent _ c.if-id-ne1.true; tables_after = where_fits_short 1 lent _ _ c.if-id-ne1.true }
 
-pub returns-in-Id : goal.returns-in-Id
-returns-in-Id c =
+pub returns-in-Ok : goal.returns-in-Ok
+returns-in-Ok c =
     let lent = c.args.id.now in
     let h = c.if-id-ne1.false in
     let e = c.allocate_object_id.ensures in
-    record { answers = told_exported new_id_answer _ _ _ e.result_value c.in-Id.is 1 lent _ _ h refl (one_word lent _ h); tables_after = e.tallies_after ∙ where_fits_fits 1 lent _ _ h }
+    record { answers = told_exported new_id_answer _ _ _ e.result_value c.in-Ok.is 1 lent _ _ h refl (one_word lent _ h); tables_after = e.tallies_after ∙ where_fits_fits 1 lent _ _ h }
 
-pub returns-in-Refused : goal.returns-in-Refused
-returns-in-Refused c =
+pub returns-in-Err : goal.returns-in-Err
+returns-in-Err c =
     let lent = c.args.id.now in
     let h = c.if-id-ne1.false in
     let e = c.allocate_object_id.ensures in
-    record { answers = told_exported new_id_answer _ _ _ e.result_value c.in-Refused.is 1 lent _ _ h (sym c.status.ensures) refl; tables_after = e.tallies_after ∙ where_fits_fits 1 lent _ _ h }
+    record { answers = told_exported new_id_answer _ _ _ e.result_value c.in-Err.is 1 lent _ _ h (sym c.status.ensures) refl; tables_after = e.tallies_after ∙ where_fits_fits 1 lent _ _ h }

@@ -8,18 +8,18 @@ returns-then-sums-ne4 c =
     let lent = c.args.sums.now in
     exported_short 4 lent _ c.if-sums-ne4.true
 
-pub returns-in-Stats : goal.returns-in-Stats
-returns-in-Stats c =
+pub returns-in-Ok : goal.returns-in-Ok
+returns-in-Ok c =
     let a = c.args in
     let lent = a.sums.now in
     let h = c.if-sums-ne4.false in
     let e = c.stats.ensures in
-    told_exported (stats_answer a.tallies.now) _ _ _ e c.in-Stats.is 4 lent _ _ h refl (sym c.four.ensures)
+    told_exported (stats_answer a.tallies.now) _ _ _ e c.in-Ok.is 4 lent _ _ h refl (sym c.four.ensures)
 
-pub returns-in-Refused : goal.returns-in-Refused
-returns-in-Refused c =
+pub returns-in-Err : goal.returns-in-Err
+returns-in-Err c =
     let a = c.args in
     let lent = a.sums.now in
     let h = c.if-sums-ne4.false in
     let e = c.stats.ensures in
-    told_exported (stats_answer a.tallies.now) _ _ _ e c.in-Refused.is 4 lent _ _ h (sym c.status.ensures) refl
+    told_exported (stats_answer a.tallies.now) _ _ _ e c.in-Err.is 4 lent _ _ h (sym c.status.ensures) refl

@@ -8,16 +8,16 @@ returns-then-length-ne1 c =
     let lent = c.args.length.now in
     exported_short 1 lent _ c.if-length-ne1.true
 
-pub returns-in-Bytes : goal.returns-in-Bytes
-returns-in-Bytes c =
+pub returns-in-Ok : goal.returns-in-Ok
+returns-in-Ok c =
     let lent = c.args.length.now in
     let h = c.if-length-ne1.false in
     let e = c.snapshot_length.ensures in
-    told_exported measured_answer _ _ _ e c.in-Bytes.is 1 lent _ _ h refl (one_word lent _ h)
+    told_exported measured_answer _ _ _ e c.in-Ok.is 1 lent _ _ h refl (one_word lent _ h)
 
-pub returns-in-Refused : goal.returns-in-Refused
-returns-in-Refused c =
+pub returns-in-Err : goal.returns-in-Err
+returns-in-Err c =
     let lent = c.args.length.now in
     let h = c.if-length-ne1.false in
     let e = c.snapshot_length.ensures in
-    told_exported measured_answer _ _ _ e c.in-Refused.is 1 lent _ _ h (sym c.status.ensures) refl
+    told_exported measured_answer _ _ _ e c.in-Err.is 1 lent _ _ h (sym c.status.ensures) refl

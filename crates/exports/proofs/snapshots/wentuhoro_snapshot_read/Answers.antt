@@ -10,16 +10,16 @@ returns-then-rows-ne1 c =
     let n = c.if-rows-ne1.true in
     record { answers = exported_short 1 lent _ n; row_ids_after = where_fits_short 1 lent _ _ n; row_locations_after = where_fits_short 1 lent _ _ n; row_carried_after = where_fits_short 1 lent _ _ n }
 
-pub returns-in-Rows : goal.returns-in-Rows
-returns-in-Rows c =
+pub returns-in-Ok : goal.returns-in-Ok
+returns-in-Ok c =
     let lent = c.args.rows.now in
     let h = c.if-rows-ne1.false in
     let e = c.read.ensures in
-    record { answers = said_exported taken_outcome _ _ _ (ap (λ (t : ReadInto). taken_outcome t.answer) e) c.in-Rows.is 1 lent _ _ h refl (one_word lent _ h); row_ids_after = ap (λ (t : ReadInto). t.ids) e ∙ where_fits_fits 1 lent _ _ h; row_locations_after = ap (λ (t : ReadInto). t.locations) e ∙ where_fits_fits 1 lent _ _ h; row_carried_after = ap (λ (t : ReadInto). t.carried) e ∙ where_fits_fits 1 lent _ _ h }
+    record { answers = said_exported taken_outcome _ _ _ (ap (λ (t : ReadInto). taken_outcome t.answer) e) c.in-Ok.is 1 lent _ _ h refl (one_word lent _ h); row_ids_after = ap (λ (t : ReadInto). t.ids) e ∙ where_fits_fits 1 lent _ _ h; row_locations_after = ap (λ (t : ReadInto). t.locations) e ∙ where_fits_fits 1 lent _ _ h; row_carried_after = ap (λ (t : ReadInto). t.carried) e ∙ where_fits_fits 1 lent _ _ h }
 
-pub returns-in-Refused : goal.returns-in-Refused
-returns-in-Refused c =
+pub returns-in-Err : goal.returns-in-Err
+returns-in-Err c =
     let lent = c.args.rows.now in
     let h = c.if-rows-ne1.false in
     let e = c.read.ensures in
-    record { answers = said_exported taken_outcome _ _ _ (ap (λ (t : ReadInto). taken_outcome t.answer) e) c.in-Refused.is 1 lent _ _ h (sym c.status.ensures) refl; row_ids_after = ap (λ (t : ReadInto). t.ids) e ∙ where_fits_fits 1 lent _ _ h; row_locations_after = ap (λ (t : ReadInto). t.locations) e ∙ where_fits_fits 1 lent _ _ h; row_carried_after = ap (λ (t : ReadInto). t.carried) e ∙ where_fits_fits 1 lent _ _ h }
+    record { answers = said_exported taken_outcome _ _ _ (ap (λ (t : ReadInto). taken_outcome t.answer) e) c.in-Err.is 1 lent _ _ h (sym c.status.ensures) refl; row_ids_after = ap (λ (t : ReadInto). t.ids) e ∙ where_fits_fits 1 lent _ _ h; row_locations_after = ap (λ (t : ReadInto). t.locations) e ∙ where_fits_fits 1 lent _ _ h; row_carried_after = ap (λ (t : ReadInto). t.carried) e ∙ where_fits_fits 1 lent _ _ h }

@@ -1,14 +1,10 @@
 use mathlib.Core.Path.{◌∙◌}
 use Rattle.model.specs.Store.{finished_answer}
-use Rattle.exports.proofs.Laws.{told_status}
+use Rattle.model.proofs.Outcomes.{finished_answer_outcome}
+use Rattle.exports.proofs.Laws.{finished_status}
 use Rattle.exports.proofs.stores.wentuhoro_rebuild.Goals as goal
 
-pub returns-in-Done : goal.returns-in-Done
-returns-in-Done c =
+pub returns : goal.returns
+returns c =
     let e = c.rebuild.ensures in
-    record { status = told_status finished_answer _ _ _ e.0 c.in-Done.is; tables_after = e.1 }
-
-pub returns-in-Refused : goal.returns-in-Refused
-returns-in-Refused c =
-    let e = c.rebuild.ensures in
-    record { status = c.status.ensures ∙ told_status finished_answer _ _ _ e.0 c.in-Refused.is; tables_after = e.1 }
+    record { status = c.finished.ensures ∙ finished_status finished_answer finished_answer_outcome _ _ e.0; tables_after = e.1 }

@@ -1,34 +1,27 @@
--- `rebuild::apply::hold_ids` meets its contract. The loop's invariant: the rows left, written into the present tables, complete what is to be written. The measure is how many rows are left. Assumes nothing.
-use Prim.Native.Nat.{◌+◌}
+-- The loop's invariant: the rows left, written into the present tables, complete what is to be written. Assumes nothing.
+use mathlib.Core.List.{◌∷◌}
+use mathlib.Core.Logic.{⊎_elim, inl, inr}
 use mathlib.Core.Path.{◌≡◌, ap, sym, ◌∙◌}
-use lib.ListN.{length, get_or, set, length-set}
+use Prim.Native.Nat.{◌+◌}
 use native.Mathlib.Omega.{arith}
-use Rattle.model.specs.Rebuild.{held_by, located_by}
-use Rattle.rebuild_rows.proofs.Turns.{rest, rest_turn, rest_end}
-use borrow.Author.Rules.{rules}
+use lib.ListN.{set}
+use Rattle.model.specs.Rebuild.{rows_of, held_by, located_by}
+use Rattle.rebuild_rows.proofs.Turns.{rows_end}
 use Rattle.rebuild.proofs.apply.hold_ids.Goals as goal
 
-pub loop-i-preserved : goal.loop-i-preserved
-loop-i-preserved c =
-    let a = c.args in
-    let b = c.loop-i in
-    let is = a.ids.now in
-    let ls = a.row_locations.now in
-    let i = b.i in
-    let split = rest_turn is ls i (omega arith) c.requires in
-    let z : get_or is i 0 + 0 ≡ get_or is i 0 = omega arith in
-    let held = c.put.ensures in
-    let located = c.put-in-loop-i.ensures ∙ ap (λ n. set b.locations n (get_or ls i 0)) z in (
-      search rules,
-      ap length held ∙ length-set b.id_marks (get_or is i 0) 1 ∙ b.invariant.1,
-      ap length located ∙ length-set b.locations (get_or is i 0) (get_or ls i 0) ∙ b.invariant.2,
-      ap (held_by (rest is ls (i + 1))) held ∙ sym (ap (λ rs. held_by rs b.id_marks) split) ∙ b.invariant.3,
-      ap (located_by (rest is ls (i + 1))) located ∙ sym (ap (λ rs. located_by rs b.locations) split) ∙ b.invariant.4,
+pub loop-id-preserved : goal.loop-id-preserved
+loop-id-preserved c =
+    let b = c.loop-id in
+    let zero : c.in-Some.id.now + 0 ≡ c.in-Some.id.now = omega arith in
+    let steps = c.in-Some.ensures.steps in
+    let rest = rows_of c.next.new.self.a.rest.now c.next.new.self.b.rest.now in
+    let split : rows_of b.id-iterator.a.rest.now b.id-iterator.b.rest.now ≡ (c.in-Some.id.now, c.in-Some.location.now) ∷ rest = λ j. rows_of (steps.0 j) (steps.1 j) in (
+      ap (held_by rest) c.put.ensures ∙ sym (ap (λ rs. held_by rs b.id_marks) split) ∙ b.invariant.0,
+      ap (located_by rest) (c.put-in-loop-id.ensures ∙ ap (λ n. set b.locations n c.in-Some.location.now) zero) ∙ sym (ap (λ rs. located_by rs b.locations) split) ∙ b.invariant.1,
     )
 
 pub returns : goal.returns
 returns c =
-    let a = c.args in
-    let b = c.loop-i in
-    let end = rest_end a.ids.now a.row_locations.now b.i (omega arith) in
-    (sym (ap (λ rs. held_by rs b.id_marks) end) ∙ b.invariant.3, sym (ap (λ rs. located_by rs b.locations) end) ∙ b.invariant.4)
+    let b = c.loop-id in
+    let end = rows_end b.id-iterator.a.rest.now b.id-iterator.b.rest.now (⊎_elim (λ w. inl w.1.0) (λ w. inr w.1.0) c.in-None.ensures.steps) in
+    (sym (ap (λ rs. held_by rs b.id_marks) end) ∙ b.invariant.0, sym (ap (λ rs. located_by rs b.locations) end) ∙ b.invariant.1)

@@ -2,7 +2,8 @@
 use mathlib.Core.Bool.{cond}
 use mathlib.Core.List.{List}
 use mathlib.Core.Path.{◌≡◌, ap, ◌∙◌}
-use Prim.Native.Nat.{ℕ, ◌*◌}
+use Prim.Native.Nat.{ℕ, ◌*◌, min}
+use native.Mathlib.Omega.{arith}
 use lib.Dec.{eqb}
 use lib.ListN.{length}
 use borrow.Author.Tests.{eq-eqb}
@@ -22,27 +23,19 @@ column is bs zeros t u l e z =
     let kept = put_rows width is (normal_rows (all_stored is) bs) in
     e ∙ ap (λ b. cond b (kept t) t) (eq-eqb (length bs) (length is * width) l) ∙ ap kept z
 
-pub hold_slots-requires : goal.hold_slots-requires
-hold_slots-requires c = let p = c.requires in (p.0, p.1)
-
-pub shape_of-id_marks : goal.shape_of-id_marks
-shape_of-id_marks c = c.id_marks-2-1.given ∙ c.id_marks-1.given
-
-pub shape_of-carried : goal.shape_of-carried
-shape_of-carried c = c.carried-2-1.given ∙ c.carried-1.given
-
 pub returns : goal.returns
 returns c =
     let a = c.args in
     let rs = rows_of a.ids.now a.row_locations.now in
     let clear = c.all.ensures in
     let held = c.hold_ids.ensures in
-    let owned = c.hold_slots.ensures in (
+    let owned = c.hold_slots.ensures in
+    let once : c.min.result ≡ min 1 (length a.ids.now) = omega (arith, c.min.ensures) in (
       held.0 ∙ ap (held_by rs) clear.0,
       held.1 ∙ ap (located_by rs) clear.1,
       owned.0 ∙ ap (write_all a.slots (locations_of rs) 1) clear.2,
       owned.1 ∙ ap (owned_by a.slots rs) clear.3,
       clear.4,
-      owned.2 ∙ ap (λ g. use_slots a.slots g (locations_of rs)) (c.put.ensures ∙ (λ i. put_word (clear.5 i) used_words 0 (c.any.ensures i))),
+      owned.2 ∙ ap (λ g. use_slots a.slots g (locations_of rs)) (c.put.ensures ∙ (λ i. put_word (clear.5 i) used_words 0 (once i))),
       column a.ids.now a.row_carried.now _ _ _ c.requires.2 c.put_at.ensures clear.6,
     )

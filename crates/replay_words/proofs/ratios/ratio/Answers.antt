@@ -1,17 +1,13 @@
--- `replay_words::ratios::ratio` meets its contract: a case for each way out, by the tests on the way. Assumes nothing.
-use mathlib.Core.Path.{◌∙◌}
-use borrow.Author.Tests.{lt-ltb, le-ltb}
-use Rattle.replay_words.specs.Ratios.{ratio_of}
+use Rattle.std.proofs.Common.{◌∙◌, sym, ap}
+use lib.Ieee as Ieee
+use Rattle.replay_words.proofs.RatioLaws.{ratio_of-narrow, ratio_of-wide}
 use Rattle.replay_words.proofs.ratios.ratio.Goals as goal
 
-pub returns-then-bits-gt-MOST_BITS : goal.returns-then-bits-gt-MOST_BITS
-unfolding ratio_of
-returns-then-bits-gt-MOST_BITS c = c.no_number.ensures ∙ simp (lt-ltb _ _ c.if-bits-gt-MOST_BITS.true)
+pub returns-in-Ok : goal.returns-in-Ok
+returns-in-Ok c =
+    let narrow = c.in-Ok.ensures in
+    c.f32_from_bits_with_nan.ensures ∙ ap (Ieee.of_bits Ieee.binary32) narrow.1 ∙ sym (ratio_of-narrow c.args.bits narrow.0)
 
-pub returns-then-bits-gt-INFINITY : goal.returns-then-bits-gt-INFINITY
-unfolding ratio_of
-returns-then-bits-gt-INFINITY c = c.no_number-then-bits-gt-INFINITY.ensures ∙ simp (le-ltb _ _ c.if-bits-gt-MOST_BITS.false, lt-ltb _ _ c.if-bits-gt-INFINITY.true)
-
-pub returns : goal.returns
-unfolding ratio_of
-returns c = c.number.ensures ∙ simp (le-ltb _ _ c.if-bits-gt-MOST_BITS.false, le-ltb _ _ c.if-bits-gt-INFINITY.false)
+pub returns-in-Err : goal.returns-in-Err
+unfolding Ieee.of_bits
+returns-in-Err c = sym (ratio_of-wide c.args.bits c.in-Err.ensures)

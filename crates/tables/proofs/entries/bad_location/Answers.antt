@@ -1,6 +1,6 @@
 -- By what unpacks: no address is bad but for zero (bad_in_none), an address is where the id is not its owner (bad_in_at). Assumes nothing.
 use Rattle.std.proofs.Common.{not, sym, ap, ◌∙◌, rules}
-use Rattle.std.specs.Prelude.{Ok, None, ◌≡◌}
+use Rattle.std.specs.Prelude.{Ok}
 use Rattle.address.proofs.Laws.{none_unpacked, none_refused}
 use Rattle.tables.proofs.LawsEntries.{bad_in_none, bad_in_at}
 use Rattle.tables.proofs.entries.bad_location.Goals as goal
