@@ -6,6 +6,7 @@ use native.Mathlib.Omega.{arith}
 use lib.ListN.{length, set, drop}
 use lib.Seq.{sets, sets-eq, drop-length}
 use borrow.Author.Tests.{eq-eqb, ne_eqb}
+use Rattle.refusal.specs.Refusals.{number_of}
 use Rattle.refusal.specs.declared.Kind.{Kind}
 use Rattle.refusal.specs.Outcomes.{Values, refused, finished_outcome}
 use Rattle.model.specs.Store.{Offer, offer, Answer}
@@ -26,8 +27,8 @@ use Rattle.std.specs.Prelude.{Result, Ok, Err, ⊤}
 use Rattle.refusal.specs.declared.Refusal.{Refusal}
 
 -- an index below 2^56 comes back from a status
-pub status_exact : (number : Kind) (index : ℕ) → number < 256 → index < 2 ^ 56 → status_of (refused number index) ≡ number + 256 * index
-status_exact number index h i = omega arith
+pub status_exact : (kind : Kind) (index : ℕ) → number_of kind < 256 → index < 2 ^ 56 → status_of (refused kind index) ≡ number_of kind + 256 * index
+status_exact kind index h i = omega arith
 
 module _ (n : ℕ) (lent : List ℕ) where
   pub exported_short : (o : Values) → (length lent ≡ n → ⊥) → record { status = 1; lent = lent } ≡ exported n o lent

@@ -10,6 +10,7 @@ ghost use Rattle.exports.specs.Answers.{where_fits};
 use crate::values;
 use exports_status::{WRONG_LENGTH, finished, status};
 use tables::Capacities;
+use truncation::Cut;
 
 // The objects to move, by slab, then slot, in the first rows of two lists of ids - 1 rows. One value: how many rows.
 pub fn wentuhoro_defrag(

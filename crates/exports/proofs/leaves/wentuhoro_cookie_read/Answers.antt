@@ -13,7 +13,7 @@ returns-then-leaf_fanout-ne1 c = exported_short 1 c.args.leaf_fanout.now _ c.if-
 pub returns-in-Ok : goal.returns-in-Ok
 returns-in-Ok c =
     let lent = c.args.leaf_fanout.now in
-    let e = sym c.deserialize.ensures ∙ c.in-Ok.is ∙ ap Ok c.leaf_fanout-2.ensures in
+    let e = sym c.deserialize.ensures ∙ c.in-Ok.is ∙ ap Ok c.leaf_fanout.ensures in
     exported_is 1 lent _ _ _ c.if-leaf_fanout-ne1.false (ap (λ (x : Result PersistentSettings Refusal). status_of (persistent_settings_outcome x)) e)
     (ap (λ (x : Result PersistentSettings Refusal). values_in (persistent_settings_outcome x) lent) e ∙ one_word lent _ c.if-leaf_fanout-ne1.false)
 

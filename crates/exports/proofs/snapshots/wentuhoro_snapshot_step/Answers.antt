@@ -6,6 +6,8 @@ use Rattle.exports.proofs.Laws.{exported_short, exported_is}
 use Rattle.exports.proofs.snapshots.wentuhoro_snapshot_step.Goals as goal
 use Rattle.std.specs.Prelude.{Result, Option, Ok, None}
 use Rattle.refusal.specs.declared.Refusal.{Refusal}
+use Rattle.snapshot_blocks.specs.declared.Row.{Row}
+use Rattle.snapshot.specs.declared.Position.{Position}
 
 pub returns-then-values-ne8 : goal.returns-then-values-ne8
 returns-then-values-ne8 c =
