@@ -1,5 +1,6 @@
 // What is said of a group's ids.
 use crate::ratio::{Ratio, RatioError};
+use crate::rows::Rows;
 use crate::sentences::Sentence;
 use crate::store::Store;
 use crate::{store, words};
@@ -44,9 +45,7 @@ impl<'a> From<Unread> for NoAnswer<'a> {
     fn from(error: Unread) -> NoAnswer<'a> {
         match error {
             Unread::Unopened => NoAnswer::Unopened,
-            Unread::TooLong | Unread::CutShort => NoAnswer::Block(Refusal::of(
-                Kind::WrongShape,
-            )),
+            Unread::TooLong | Unread::CutShort => NoAnswer::Block(Refusal::of(Kind::WrongShape)),
             Unread::Failed(error) => NoAnswer::Failed(error),
         }
     }

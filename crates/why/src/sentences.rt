@@ -11,7 +11,7 @@ use std::{fmt, io};
 pub struct Sentence<'a> {
     pub id: u64,
     pub typed: &'a str,
-    pub reason: Reason,
+    pub reason: Result<Reason, Refusal>,
 }
 
 // Its parts of an object's standing: where the object is, how many slots are in use, and how many smaller ones are taken.
@@ -69,15 +69,15 @@ impl fmt::Display for Sentence<'_> {
         let Sentence { id, typed, reason } = *self;
         write!(f, "object {id}")?;
         match reason {
-            Reason::NotStored => f.write_str(": no such stored object"),
-            Reason::FullEnough(standing) => write!(
+            Ok(Reason::NotStored) => f.write_str(": no such stored object"),
+            Ok(Reason::FullEnough(standing)) => write!(
                 f,
                 " {}: stays, since {}, which is full enough (ratio {typed}); {}",
                 Place(standing),
                 InUse(standing),
                 Smaller(standing)
             ),
-            Reason::BeforeLine(standing, line) => write!(
+            Ok(Reason::BeforeLine(standing, line)) => write!(
                 f,
                 " {}: stays, since its slot is before the line, though {} (ratio {typed}{}); {}",
                 Place(standing),
@@ -85,7 +85,7 @@ impl fmt::Display for Sentence<'_> {
                 Line(line),
                 Smaller(standing)
             ),
-            Reason::Listed(standing, line) => write!(
+            Ok(Reason::Listed(standing, line)) => write!(
                 f,
                 " {}: moved, since {} (ratio {typed}{}); {}",
                 Place(standing),
@@ -93,7 +93,7 @@ impl fmt::Display for Sentence<'_> {
                 Line(line),
                 Smaller(standing)
             ),
-            Reason::Refused(_) => f.write_str(": refused"),
+            Err(_) => f.write_str(": refused"),
         }
     }
 }

@@ -1,7 +1,9 @@
 // The store of a file's rows, of 4,361,936 bytes, and what it is asked.
 use crate::answers::NoAnswer;
+use crate::rows::Rows;
 use owned_tables::OwnedTables;
 use reason::Reason;
+use refusal::Refusal;
 use snapshot_blocks::BLOCK;
 use std::alloc::Global;
 use tables::{Capacities, MOST_UPDATES};
@@ -44,7 +46,7 @@ impl Store {
         }
     }
 
-    pub fn reason(&self, id: u64, ratio: f32) -> Reason {
+    pub fn reason(&self, id: u64, ratio: f32) -> Result<Reason, Refusal> {
         reason::reason_for_object(
             self.0.caps,
             &self.0.id_marks,
