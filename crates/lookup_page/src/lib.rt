@@ -2,8 +2,8 @@
 //
 //     // asked: the ids, in any order and as often as one likes; numbers, found: as many rows; rows: as many times carried::WIDTH bytes
 //     match lookup_page::get_locations_for_objects(caps, &id_marks, &locations, &slot_marks, &owners, &tallies, &carried, &asked, numbers, found, rows) {
-//         Ok(()) => .. numbers[i] ..,     // 0: found[i] is the location of asked[i], and row i what its row carries; else 8 or 13, and zeros
-//         Err(refusal) => ..,         // 1; 15, over 256 ids; the lists are as they were
+//         Ok(()) => .. numbers[i] ..,    // 0: found[i] is the location of asked[i], and row i what its row carries; else 8 or 13, and zeros
+//         Err(refusal) => ..,            // 1; 15, over 256 ids; the lists are as they were
 //     }
 //
 // Row i is what a lookup of asked[i] answers: none depends on another. The lengths are looked at once.

@@ -11,7 +11,7 @@
 // The high mark is the Rust's `max_live_slot_since_last_truncation`: asking raises it to the slab's top slot, a report sets it there.
 #![tactic(auto)]
 
-ghost use Rattle.std.specs.Prelude.{◌≡◌, ◌*◌, ◌<◌, ◌≤◌, suc, max, ltb, length};
+ghost use Rattle.std.specs.Prelude.{◌≡◌, ◌*◌, ◌<◌, ◌≤◌, suc, ltb, length};
 ghost use Rattle.list_parts.specs.Parts.{part};
 ghost use Rattle.marks.specs.Marks.{tip};
 ghost use Rattle.id_allocator.specs.Counted.{hinted};
@@ -35,12 +35,6 @@ const LEAST_TARGET: u64 = 1;
 const MOST_TARGET: u64 = 86;
 // Below this top, so up to 16 slots, a file is cut to what is in use; from it on to 15 percent more.
 const SMALL: u64 = 16;
-
-fn larger(a: u64, b: u64) -> u64
-    ensures { result ≡ max a b }
-{
-    if a < b { b } else { a }
-}
 
 fn is_target(t: u64) -> bool
     ensures { result ≡ is_target t }
@@ -103,7 +97,7 @@ fn cut_at(slab: usize, high: u64, t: u64, tip: usize) -> Option<Cut>
     }
     let size = sizes::slab_size(slab);
     let top = tip as u64 - 1;
-    let high = larger(high, top);
+    let high = high.max(top);
     if !sparse(size, top, high, t) {
         return None;
     }
@@ -179,7 +173,7 @@ fn raise(tallies: &mut [u64], slab: usize, tip: usize)
         return;
     }
     let high = tables::get(tallies, tables::HIGH, slab);
-    tables::put(tallies, tables::HIGH, slab, larger(high, tip as u64 - 1));
+    tables::put(tallies, tables::HIGH, slab, high.max(tip as u64 - 1));
 }
 
 // ---- the calls

@@ -14,7 +14,7 @@ sparse-requires c =
 
 pub returns-then-not-sparse : goal.returns-then-not-sparse
 returns-then-not-sparse c =
-    cut_at_full _ _ _ _ _ _ _ c.if-tip-eq0.false c.slab_size-size.ensures refl c.larger-high.ensures
+    cut_at_full _ _ _ _ _ _ _ c.if-tip-eq0.false c.slab_size-size.ensures refl c.max-high.ensures
     (sym c.sparse.ensures ∙ c.if-not-sparse.true)
 
 pub bytes_to-before-requires : goal.bytes_to-before-requires
@@ -30,11 +30,11 @@ new_length-length-requires c =
 pub returns-then-before-length : goal.returns-then-before-length
 returns-then-before-length c =
     let less = sym c.sparse.ensures ∙ c.if-not-sparse.false in
-    cut_at_nothing _ _ _ _ _ _ _ c.if-tip-eq0.false c.slab_size-size.ensures refl c.larger-high.ensures
+    cut_at_nothing _ _ _ _ _ _ _ c.if-tip-eq0.false c.slab_size-size.ensures refl c.max-high.ensures
     less _ _ c.bytes_to-before.ensures.0 c.new_length-length.ensures c.if-before-length.true
 
 pub returns : goal.returns
 returns c =
     let less = sym c.sparse.ensures ∙ c.if-not-sparse.false in
-    cut_at_less _ _ _ _ _ _ _ c.if-tip-eq0.false c.slab_size-size.ensures refl c.larger-high.ensures
+    cut_at_less _ _ _ _ _ _ _ c.if-tip-eq0.false c.slab_size-size.ensures refl c.max-high.ensures
     less _ _ c.bytes_to-before.ensures.0 c.new_length-length.ensures c.if-before-length.false

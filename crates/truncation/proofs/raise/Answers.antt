@@ -5,4 +5,4 @@ use Rattle.truncation.proofs.raise.Goals as goal
 pub returns : goal.returns
 returns c =
     let a = c.args in
-    raised a.tallies.now _ a.slab a.tip _ _ c.if-tip-eq0.false c.get-high.ensures c.larger.ensures c.put.ensures
+    raised a.tallies.now _ a.slab a.tip _ _ c.if-tip-eq0.false c.get-high.ensures c.max.ensures c.put.ensures
