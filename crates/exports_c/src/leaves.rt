@@ -1,6 +1,6 @@
 // Classes, checks, frames, cookies, addresses and cutoffs.
 ghost use Rattle.std.specs.Prelude.{◌≡◌};
-ghost use Rattle.refusal.specs.Outcomes.{granted, finished_outcome, judged_outcome};
+ghost use Rattle.refusal.specs.Outcomes.{granted, finished_outcome};
 ghost use Rattle.crc_steps.specs.Crc32.{crc_over, crc32};
 ghost use Rattle.sizes.specs.Sizes.{slabs, slab_sizes, class_of};
 ghost use Rattle.sizes.specs.Outcomes.{class_outcome};
@@ -87,7 +87,7 @@ pub extern "C" fn wentuhoro_cookie_read(cookie: &[u8], leaf_fanout: &mut [u64]) 
 // Whether a settings cookie was written with this fanout.
 #[unsafe(no_mangle)]
 pub extern "C" fn wentuhoro_cookie_verify(cookie: &[u8], leaf_fanout: u64) -> u64
-    ensures { result ≡ status_of (judged_outcome (agreement leaf_fanout (settings_of cookie.now))) }
+    ensures { result ≡ status_of (finished_outcome (agreement leaf_fanout (settings_of cookie.now))) }
 {
     exports::wentuhoro_cookie_verify(cookie, leaf_fanout)
 }

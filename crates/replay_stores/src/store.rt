@@ -6,8 +6,8 @@ use crate::kinds::{Kind, NoKind};
 use address::SlabAddress;
 use carried::WIDTH;
 use replay_words::file;
-use replay_words::file::Judge;
-use replay_words::line::Line;
+use replay_words::line::{Line, Lines};
+use replay_words::tally::Tally;
 use std::io;
 use std::rt::Files;
 use tables::{BATCH_WORDS, MOST_UPDATES, TALLY_WORDS};
@@ -70,52 +70,39 @@ pub struct Tables<'a> {
     pub carried: &'a mut [u8],
 }
 
-// A store and its memory: the tables are as long as the largest store of the lists needs them.
-struct Store {
-    capacities: Capacities,
-    id_marks: [u8; MOST],
-    locations: [u64; MOST],
-    slot_marks: [u8; ALL_SLOTS],
-    owners: [u64; ALL_SLOTS],
-    batch: [u64; BATCH_WORDS],
-    tallies: [u64; TALLY_WORDS],
-    carried: [u8; MOST_CARRIED],
-}
-
-impl Judge for Store {
-    fn agrees(&mut self, line: Line) -> bool {
-        self.capacities = self.capacities.after(line);
-        let Capacities { ids, slots } = self.capacities;
+// Replays a file of histories. The tables are as long as the largest store of the lists needs them.
+pub fn replay(rt: &(impl Files + Print + Eprint), name: &[u8]) -> io::Result<()> {
+    let mut space = file::space();
+    let n = file::load(rt, name, &mut space)?;
+    let mut capacities = Capacities { ids: 0, slots: 0 };
+    let mut id_marks = [ANY_MARK; MOST];
+    let mut locations = [ANY; MOST];
+    let mut slot_marks = slot_marks();
+    let mut owners = owners();
+    let mut batch = [ANY; BATCH_WORDS];
+    let mut tallies = [ANY; TALLY_WORDS];
+    let mut carried = carried();
+    let mut tally = Tally::new();
+    for line in (Lines { left: &space[..n] }) {
+        capacities = capacities.after(line);
+        let Capacities { ids, slots } = capacities;
         let all = slots * SlabAddress::SLABS;
         let rows = (ids + MOST_UPDATES) * WIDTH;
         let mut tables = Tables {
             ids,
             slots,
-            id_marks: &mut self.id_marks[..ids],
-            locations: &mut self.locations[..ids],
-            slot_marks: &mut self.slot_marks[..all],
-            owners: &mut self.owners[..all],
-            batch: &mut self.batch,
-            tallies: &mut self.tallies,
-            carried: &mut self.carried[..rows],
+            id_marks: &mut id_marks[..ids],
+            locations: &mut locations[..ids],
+            slot_marks: &mut slot_marks[..all],
+            owners: &mut owners[..all],
+            batch: &mut batch,
+            tallies: &mut tallies,
+            carried: &mut carried[..rows],
         };
-        tables.agrees(line)
+        tally = tally.with_line(rt, name, line, tables.agrees(line))?;
     }
-}
-
-// Replays a file of histories.
-pub fn replay(rt: &(impl Files + Print + Eprint), name: &[u8]) -> io::Result<()> {
-    let mut store = Store {
-        capacities: Capacities { ids: 0, slots: 0 },
-        id_marks: [ANY_MARK; MOST],
-        locations: [ANY; MOST],
-        slot_marks: slot_marks(),
-        owners: owners(),
-        batch: [ANY; BATCH_WORDS],
-        tallies: [ANY; TALLY_WORDS],
-        carried: carried(),
-    };
-    file::replay(rt, name, &mut store)
+    tally.say(rt, name)?;
+    Ok(())
 }
 
 impl Tables<'_> {

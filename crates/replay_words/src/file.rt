@@ -2,8 +2,6 @@
 ghost use Rattle.std.specs.Prelude.{◌≡◌, ◌≤◌, length, IfOk};
 ghost use Rattle.replay_words.specs.Space.{zeros};
 
-use crate::line::{Line, Lines};
-use crate::tally::Tally;
 use std::io::Read;
 use std::rt::Files;
 use std::{fs, io, str};
@@ -55,26 +53,4 @@ pub fn load(rt: &(impl Files + Eprint), name: &[u8], space: &mut [u8]) -> io::Re
             Ok(0)
         }
     }
-}
-
-// What a program asks of each line of its lists.
-pub trait Judge {
-    // Whether the line agrees with what the library answers.
-    fn agrees(&mut self, line: Line) -> bool;
-}
-
-// Has each line of the file of this name judged, and says how many do not agree.
-pub fn replay(
-    rt: &(impl Files + Print + Eprint),
-    name: &[u8],
-    judge: &mut impl Judge,
-) -> io::Result<()> {
-    let mut space = space();
-    let n = load(rt, name, &mut space)?;
-    let mut tally = Tally::new();
-    for line in (Lines { left: &space[..n] }) {
-        tally = tally.with_line(rt, name, line, judge.agrees(line))?;
-    }
-    tally.say(rt, name)?;
-    Ok(())
 }

@@ -1,10 +1,10 @@
 // Document 01, "Run whole": eight objects of three bytes stored in order, five freed and released, and what is to be moved then.
 #![tactic(auto)]
 
-use refusal::Refusal;
 use address::SlabAddress;
 use carried::WIDTH;
 use owned_tables::OwnedTables;
+use refusal::Refusal;
 use std::alloc::{AllocError, Global};
 use std::io;
 use tables::Capacities;
@@ -107,7 +107,12 @@ impl Store {
         );
     }
 
-    fn objects_to_defrag(&self, r: f32, ids: &mut [u64], locations: &mut [u64]) -> Result<usize, Refusal> {
+    fn objects_to_defrag(
+        &self,
+        r: f32,
+        ids: &mut [u64],
+        locations: &mut [u64],
+    ) -> Result<usize, Refusal> {
         defrag::objects_to_defrag(
             self.0.caps,
             &self.0.locations,
