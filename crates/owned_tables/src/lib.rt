@@ -41,3 +41,17 @@ impl OwnedTables {
         })
     }
 }
+
+#[cfg(test)]
+mod tests {
+    use super::*;
+    use std::test::Fail;
+
+    #[test]
+    fn there_is_memory(rt: HostRuntime) -> Result<(), Fail> {
+        let tables = OwnedTables::zeroed(rt.alloc(), Capacities { ids: 9, slots: 8 })?;
+        assert_eq!(rt; tables.locations.len(), 9);
+        assert_eq!(rt; tables.owners.len(), 624);
+        Ok(())
+    }
+}

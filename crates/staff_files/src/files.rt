@@ -84,3 +84,16 @@ pub fn load<R: Files + Eprint + AllocGlobal>(
         }
     }
 }
+
+#[cfg(test)]
+mod tests {
+    use super::*;
+
+    #[test]
+    fn there_is_memory(rt: HostRuntime) {
+        assert!(rt;
+            matches!(load(&rt, b"/dev/null", 512), Ok(bytes) if bytes.is_empty()),
+            "an empty file is read"
+        );
+    }
+}
