@@ -3,14 +3,14 @@ use mathlib.Core.Bool.{Bool, true, false, not, cond, ◌||◌}
 use mathlib.Core.List.{List, [], ◌∷◌}
 use mathlib.Core.Logic.{◌⊎◌, inl, inr}
 use mathlib.Core.Path.{◌≡◌, refl, sym, ap, ◌∙◌}
-use Prim.Native.Nat.{ℕ, zero, suc, ◌+◌, ◌-◌, ◌%◌, ◌≤◌, ◌<◌}
+use Prim.Native.Nat.{ℕ, zero, suc, ◌+◌, ◌-◌, ◌%◌, ◌≤◌, ◌<◌, min}
 use native.Mathlib.Decide.{ℕ_discrete}
 use native.Mathlib.Numerals.{add-one}
 use native.Mathlib.Omega.{arith}
 use lib.Dec.{leb, ltb, eqb}
 use lib.ListN.{length, get_or, take, drop, set, drop_of_length-le}
 use lib.Seq.{sets, drop-cons, set_out, get_or-set_same, get_or-set_other}
-use borrow.Author.Tests.{eq-eqb, eqb-true, ne_eqb, ltb-false}
+use borrow.Author.Tests.{eq-eqb, eqb-true, ne_eqb, ltb-false, leb-true, leb-false}
 use Rattle.std.specs.List.{list_any}
 use Rattle.std.proofs.lemmas.List.Folds.{list_any_more}
 use Rattle.refusal.specs.declared.Kind.{Kind}
@@ -168,6 +168,12 @@ check_short m seen is ks j i h = rw (drop_of_length-le ks h) (none is)
     none : (is : List ℕ) → ok ≡ check_in m seen j is []
     none [] = refl
     none (x ∷ is) = refl
+
+-- where either list is over
+pub check_over : (m : Memory) (seen is ks : List ℕ) (j i : ℕ) → min (length is) (length ks) ≤ i → ok ≡ check_in m seen j (drop i is) (drop i ks)
+check_over m seen is ks j i h =
+    by_test (leb (length is) i) (λ t. check_end m seen is (drop i ks) j i (leb-true _ _ t))
+    (λ t. check_short m seen (drop i is) ks j i (omega (arith, leb-false (length is) i t)))
 
 -- each id that was seen has its byte set
 pub seen_on : (is : List ℕ) (i : ℕ) (seen : List Bool) → length seen ≡ 4096 → ((x : ℕ) → elem x (before i is) ≡ true → get_or seen (x % 4096) false ≡ true)

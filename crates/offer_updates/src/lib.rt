@@ -167,11 +167,7 @@ pub fn check(
 {
     let found = locations_of(locations, ids);
     let mut seen = [false; BUCKETS as usize];
-    let mut i: usize = 0;
-    while i < ids.len() {
-        if slabs.len() <= i {
-            return Ok(());
-        }
+    for i in 0..ids.len().min(slabs.len()) {
         let bucket = (ids[i] % BUCKETS) as usize;
         let location = location_of(&found, locations, ids, i);
         if let Some(kind) = wrong(
@@ -189,7 +185,6 @@ pub fn check(
             return Err(Refusal::at(kind, i));
         }
         seen[bucket] = true;
-        i += 1;
     }
     Ok(())
 }
