@@ -2,8 +2,10 @@
 -- (README.md there has the grammar) by oracle/sample_data: the answer is the Rust's where that is the documents' too, and elsewhere that of the
 -- oracle's model of them.
 -- Assumes nothing.
-use Rattle.std.specs.Prelude.{◌≡◌, Bool, true, false, List, [], ◌∷◌, ◌++◌, map, ℕ, ◌-◌, length, set, replicate, pos, negsuc}
+use Rattle.std.specs.Prelude.{◌≡◌, Bool, true, false, List, [], ◌∷◌, ◌++◌, map, ℕ, ◌-◌, length, get_or, set, replicate, pos, negsuc}
 use Rattle.std.specs.Float.{nan, inf, fin}
+use Rattle.refusal.specs.declared.Kind.{Kind}
+use Rattle.refusal.specs.Refusals.{wrong_shape, too_large, out_of_range, check_differs, too_long, unknown_version, fanout_differs, no_such_id, repeated_id, none_free, batch_open, no_batch, tables_disagree, ratio_out_of_range, too_many, repeated_location, nothing_to_cut, gap_not_zero, wrong_block, wrong_end, key_too_long, settings_differ, bad_move, no_face, bad_face, totals_refused}
 use Rattle.refusal.specs.Outcomes.{granted, refused}
 use Rattle.little_endian.specs.LittleEndian.{bytes_of}
 use Rattle.carried.specs.Carried.{width, up_from}
@@ -24,9 +26,15 @@ pub record Asked : Type 0 where
 abbrev pub asked : Call → Grant → Asked
 asked c g = record { call = c; answered = granted g }
 
+-- the kinds in the order of their numbers, of which the first is 1
+abbrev pub kind_by : ℕ → Kind
+kind_by n =
+    get_or (wrong_shape ∷ too_large ∷ out_of_range ∷ check_differs ∷ too_long ∷ unknown_version ∷ fanout_differs ∷ no_such_id ∷ repeated_id ∷ none_free ∷ batch_open ∷ no_batch ∷ tables_disagree ∷
+    ratio_out_of_range ∷ too_many ∷ repeated_location ∷ nothing_to_cut ∷ gap_not_zero ∷ wrong_block ∷ wrong_end ∷ key_too_long ∷ settings_differ ∷ bad_move ∷ no_face ∷ bad_face ∷ totals_refused ∷ []) (n - 1) totals_refused
+
 -- refused, with a number and an index
 abbrev pub denied : Call → ℕ → ℕ → Asked
-denied c n i = record { call = c; answered = refused n i }
+denied c n i = record { call = c; answered = refused (kind_by n) i }
 
 -- what a row is brought with: a collection alone; and with how long its key is said to be, and the bytes that begin with it
 abbrev pub plain : ℕ → List ℕ
@@ -100,8 +108,8 @@ sample1 =
     (keyed 72340172838076417 3 (125 ∷ 151 ∷ 243 ∷ []) ∷ keyed 72340172838076418 2 (144 ∷ 19 ∷ 122 ∷ 138 ∷ []) ∷ keyed 72340172838076419 2 (163 ∷ 227 ∷ 110 ∷
     39 ∷ []) ∷ [])) (placed (72057594037927936 ∷ 72057594037927937 ∷ 72057594037927938 ∷ [])) ∷ asked commit done ∷
     asked (offer_of (2 ∷ []) (false ∷ []) (0 ∷ []) (plain 144680345676152834 ∷ [])) (placed (0 ∷ [])) ∷ asked commit done ∷ asked release done ∷
-    asked new_id (gave 2) ∷ asked (page_of (1 ∷ 2 ∷ 3 ∷ [])) (told (told_row 72057594037927936 72340172838076417 (125 ∷ 151 ∷ 243 ∷ []) ∷ refused_row 8 ∷
-    told_row 72057594037927938 72340172838076419 (163 ∷ 227 ∷ []) ∷ [])) ∷
+    asked new_id (gave 2) ∷ asked (page_of (1 ∷ 2 ∷ 3 ∷ [])) (told (told_row 72057594037927936 72340172838076417 (125 ∷ 151 ∷ 243 ∷ []) ∷ refused_row
+    (kind_by 8) ∷ told_row 72057594037927938 72340172838076419 (163 ∷ 227 ∷ []) ∷ [])) ∷
     asked (ask (why 1 (fin false 3 (negsuc 1)))) (because (before_line (standing_of 0 0 0 2 3) 2)) ∷
     asked (ask (why 2 (fin false 3 (negsuc 1)))) (because not_stored) ∷
     asked (ask (why 3 (fin false 3 (negsuc 1)))) (because (listed (standing_of 0 2 1 2 3) 2)) ∷
@@ -126,8 +134,8 @@ sample2 =
     asked (ask snapshot_length) (gave 1024) ∷ denied (snapshot_in 512) 1 0 ∷ asked (offer_of (1 ∷ 7 ∷ 8 ∷ []) (true ∷ true ∷ true ∷ []) (3 ∷ 3 ∷ 3 ∷ [])
     (keyed 144680345676152833 64 (replicate 64 255) ∷ keyed 144680345676152839 3 (110 ∷ 101 ∷ 119 ∷ []) ∷ keyed 144680345676152840 5 [] ∷ [])) (placed
     (72057594037927944 ∷ 72057594037927945 ∷ 72057594037927946 ∷ [])) ∷ asked (lookup_of 1) (found_at 72057594037927936 72340172838076417 []) ∷ asked (page_of
-    (1 ∷ 7 ∷ 9 ∷ 1 ∷ [])) (told (told_row 72057594037927936 72340172838076417 [] ∷ told_row 72057594037927942 72340172838076423 (up_from 1 64) ∷ refused_row 8 ∷
-    told_row 72057594037927936 72340172838076417 [] ∷ [])) ∷ asked commit done ∷
+    (1 ∷ 7 ∷ 9 ∷ 1 ∷ [])) (told (told_row 72057594037927936 72340172838076417 [] ∷ told_row 72057594037927942 72340172838076423 (up_from 1 64) ∷ refused_row
+    (kind_by 8) ∷ told_row 72057594037927936 72340172838076417 [] ∷ [])) ∷ asked commit done ∷
     asked (lookup_of 1) (found_at 72057594037927944 144680345676152833 (replicate 64 255)) ∷
     asked (lookup_of 2) (found_at 72057594037927937 72340172838076418 (1 ∷ [])) ∷
     asked (lookup_of 3) (found_at 72057594037927938 72340172838076419 (1 ∷ 2 ∷ [])) ∷
