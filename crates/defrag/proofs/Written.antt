@@ -14,13 +14,10 @@ use Rattle.defrag.specs.Listed.{movable_at, row_of, listed_of}
 
 -- ---- listed_of
 
-pub listed_of_turn : (locations : List ℕ) (first : ℕ) (os : List ℕ) (i : ℕ) → i < length os
-    → listed_of locations (first + i) (drop i os) ≡ row_of locations (first + i) (get_or os i 0) ++ listed_of locations (first + (i + 1)) (drop (i + 1) os)
+pub listed_of_turn : (locations : List ℕ) (l : ℕ) (os : List ℕ) (i : ℕ) → i < length os
+    → listed_of locations l (drop i os) ≡ row_of locations l (get_or os i 0) ++ listed_of locations (l + 1) (drop (i + 1) os)
 unfolding listed_of
-listed_of_turn locations first os i h =
-    let e : first + i + 1 ≡ first + (i + 1) = omega arith in
-    ap (listed_of locations (first + i)) (drop-cons os i 0 h)
-    ∙ λ k. row_of locations (first + i) (get_or os i 0) ++ listed_of locations (e k) (drop (sym (add-one i) k) os)
+listed_of_turn locations l os i h = ap (listed_of locations l) (drop-cons os i 0 h) ∙ ap (λ k. row_of locations l (get_or os i 0) ++ listed_of locations (l + 1) (drop k os)) (sym (add-one i))
 
 pub listed_of_end : (locations : List ℕ) (l : ℕ) (os : List ℕ) (i : ℕ) → length os ≤ i → listed_of locations l (drop i os) ≡ []
 unfolding listed_of
