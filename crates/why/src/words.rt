@@ -1,4 +1,6 @@
 // The words that the program is started with. One that begins with ratio= or id= says that; any other names a file.
+ghost use Rattle.std.specs.Prelude.{◌≤◌};
+
 use staff_files::PATH_MAX;
 use std::env::Env;
 
@@ -13,9 +15,13 @@ pub fn is_file(env: &impl Env, i: usize) -> bool {
     !(space.starts_with(RATIO) || space.starts_with(ID))
 }
 
-// The first file from a place on, or the end.
-pub fn next_file(env: &impl Env, from: usize, end: usize) -> usize {
-    (from..end).find(|i| is_file(env, *i)).unwrap_or(end)
+// The first file from a place on, or the end; the place itself where the end is before it.
+pub fn next_file(env: &impl Env, from: usize, end: usize) -> usize
+    ensures { from ≤ result }
+{
+    (from..end)
+        .find(|i| is_file(env, *i))
+        .unwrap_or(end.max(from))
 }
 
 // The number with one digit more.
