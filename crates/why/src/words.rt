@@ -9,7 +9,7 @@ pub const RATIO: &[u8] = b"ratio=";
 pub const ID: &[u8] = b"id=";
 
 // A word that is longer than the space has its start there, which tells as well.
-pub fn is_file(env: &impl Env, i: usize) -> bool {
+fn is_file(env: &impl Env, i: usize) -> bool {
     let mut space = [0; PATH_MAX];
     let _ = env.arg(i, &mut space);
     !(space.starts_with(RATIO) || space.starts_with(ID))
