@@ -4,6 +4,7 @@
 #![tactic(auto)]
 
 ghost use Rattle.std.specs.Prelude.{◌≡◌, IfOk};
+ghost use Rattle.owned_tables.specs.Owned.{HasLengths};
 
 use address::SlabAddress;
 use carried::WIDTH;
@@ -25,10 +26,15 @@ pub struct OwnedTables {
 impl OwnedTables {
     // As long as a store of these capacities has them.
     pub fn zeroed(alloc: Global, caps: Capacities) -> Result<OwnedTables, AllocError>
-        ensures { IfOk result (λ tables. tables.caps ≡ caps) }
+        ensures caps { IfOk result (λ tables. tables.caps ≡ caps) }
+        ensures lengths { IfOk result (λ tables. HasLengths caps tables) }
     {
-        let all_slots = caps.slots.saturating_mul(SlabAddress::SLABS);
-        let rows = caps.ids.saturating_add(MOST_UPDATES);
+        let all_slots = caps
+            .slots
+            .checked_mul(SlabAddress::SLABS)
+            .ok_or(AllocError)?;
+        let rows = caps.ids.checked_add(MOST_UPDATES).ok_or(AllocError)?;
+        let all_carried = rows.checked_mul(WIDTH).ok_or(AllocError)?;
         Ok(OwnedTables {
             caps,
             id_marks: vec![in alloc; 0; caps.ids]?,
@@ -37,7 +43,7 @@ impl OwnedTables {
             owners: vec![in alloc; 0; all_slots]?,
             batch: vec![in alloc; 0; BATCH_WORDS]?,
             tallies: vec![in alloc; 0; TALLY_WORDS]?,
-            carried: vec![in alloc; 0; rows.saturating_mul(WIDTH)]?,
+            carried: vec![in alloc; 0; all_carried]?,
         })
     }
 }
