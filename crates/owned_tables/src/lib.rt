@@ -3,7 +3,8 @@
 //     let mut tables = OwnedTables::zeroed(rt.alloc(), Capacities { ids: 9, slots: 8 })?;
 #![tactic(auto)]
 
-ghost use Rattle.std.specs.Prelude.{◌≡◌, IfOk};
+ghost use Rattle.std.specs.Prelude.{◌≡◌, true, IfOk};
+ghost use Rattle.model.specs.Tables.{capacities};
 ghost use Rattle.owned_tables.specs.Owned.{HasLengths};
 
 use address::SlabAddress;
@@ -27,14 +28,10 @@ impl OwnedTables {
     // As long as a store of these capacities has them.
     pub fn zeroed(alloc: Global, caps: Capacities) -> Result<OwnedTables, AllocError>
         ensures caps { IfOk result (λ tables. tables.caps ≡ caps) }
-        ensures lengths { IfOk result (λ tables. HasLengths caps tables) }
+        ensures lengths { capacities caps.ids caps.slots ≡ true → IfOk result (λ tables. HasLengths caps tables) }
     {
-        let all_slots = caps
-            .slots
-            .checked_mul(SlabAddress::SLABS)
-            .ok_or(AllocError)?;
-        let rows = caps.ids.checked_add(MOST_UPDATES).ok_or(AllocError)?;
-        let all_carried = rows.checked_mul(WIDTH).ok_or(AllocError)?;
+        let all_slots = caps.slots.saturating_mul(SlabAddress::SLABS);
+        let rows = caps.ids.saturating_add(MOST_UPDATES);
         Ok(OwnedTables {
             caps,
             id_marks: vec![in alloc; 0; caps.ids]?,
@@ -43,7 +40,7 @@ impl OwnedTables {
             owners: vec![in alloc; 0; all_slots]?,
             batch: vec![in alloc; 0; BATCH_WORDS]?,
             tallies: vec![in alloc; 0; TALLY_WORDS]?,
-            carried: vec![in alloc; 0; all_carried]?,
+            carried: vec![in alloc; 0; rows.saturating_mul(WIDTH)]?,
         })
     }
 }
