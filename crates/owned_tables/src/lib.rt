@@ -3,8 +3,7 @@
 //     let mut tables = OwnedTables::zeroed(rt.alloc(), Capacities { ids: 9, slots: 8 })?;
 #![tactic(auto)]
 
-ghost use Rattle.std.specs.Prelude.{◌≡◌, true, IfOk};
-ghost use Rattle.model.specs.Tables.{capacities};
+ghost use Rattle.std.specs.Prelude.{◌≡◌, IfOk};
 ghost use Rattle.owned_tables.specs.Owned.{HasLengths};
 
 use address::SlabAddress;
@@ -28,7 +27,7 @@ impl OwnedTables {
     // As long as a store of these capacities has them.
     pub fn zeroed(alloc: Global, caps: Capacities) -> Result<OwnedTables, AllocError>
         ensures caps { IfOk result (λ tables. tables.caps ≡ caps) }
-        ensures lengths { capacities caps.ids caps.slots ≡ true → IfOk result (λ tables. HasLengths caps tables) }
+        ensures lengths { IfOk result (λ tables. HasLengths caps tables) }
     {
         let all_slots = caps.slots.saturating_mul(SlabAddress::SLABS);
         let rows = caps.ids.saturating_add(MOST_UPDATES);
