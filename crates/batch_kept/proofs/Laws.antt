@@ -5,11 +5,12 @@ use mathlib.Core.Path.{◌≡◌, refl, sym, ap, ◌∙◌}
 use mathlib.Core.List.{List, [], ◌∷◌}
 use Prim.Native.Nat.{ℕ, zero, suc, ◌+◌, ◌-◌, ◌/◌, ◌%◌, ◌≤◌, ◌<◌, pred}
 use native.Mathlib.Numerals.{add-one}
+use native.Mathlib.Nat.{zero-add, sub-zero}
 use native.Mathlib.Omega.{arith}
 use lib.Dec.{ltb, eqb, eqb-suc-zero}
 use lib.ListN.{length, get_or, take, drop, length-take, length-drop}
 use lib.Seq.{drop-cons, get_or-take, get_or-drop}
-use borrow.Author.Tests.{ne_eqb, lt-ltb, ltb-false}
+use borrow.Author.Tests.{ne_eqb, lt-ltb, le-ltb, ltb-false}
 use Rattle.refusal.specs.Refusals.{refusal, no_batch, tables_disagree}
 use Rattle.refusal.specs.declared.Refusal.{Refusal}
 use Rattle.refusal.proofs.Tests.{by_test}
@@ -130,10 +131,59 @@ rows_as_refused (refuse k i) p r e =
     let q : refusal k i ≡ r = cc in
     ap (λ (x : Refusal). refuse x.kind x.index) q
 
+-- ---- the first bad row, of two tests: the earlier of the two first ones
+
+-- how many updates come before the one that is refused; all of them where none is
+abbrev pub rows_before : Result ℕ Refusal → ℕ
+rows_before (Ok n) = n
+rows_before (Err r) = r.index
+
+-- how many of the rows up to `end` come before the first bad one
+abbrev before : (Row → Bool) → List ℕ → ℕ → ℕ → ℕ → ℕ
+before bad b n i end = rows_before (rows_as (first_bad bad i (kept_from b n i)) end)
+
+module _ (p : Row → Bool) (b : List ℕ) where
+  before_from : (n i end : ℕ) → i + n ≡ end → i ≤ before p b n i end
+  unfolding first_bad kept_from test ◌⨾◌
+  before_from zero i end h = omega arith
+  before_from (suc n) i end h =
+      by_test (p (get_or b (1 + i) 0, get_or b (257 + i) 0)) (λ e. simp e (omega arith)) (λ e. simp e (omega (arith, before_from n (suc i) end (omega arith))))
+
+  -- that number tells what is refused
+  before_tells : (n i end : ℕ) → i + n ≡ end → first_bad p i (kept_from b n i) ≡ test (ltb (before p b n i end) end) tables_disagree (before p b n i end)
+  unfolding first_bad kept_from test ◌⨾◌
+  before_tells zero i end h = simp (le-ltb end end (omega arith))
+  before_tells (suc n) i end h =
+      by_test (p (get_or b (1 + i) 0, get_or b (257 + i) 0)) (λ e. simp (e, lt-ltb i end (omega arith))) (λ e. simp e (before_tells n (suc i) end (omega arith)))
+
+module _ (p q : Row → Bool) (b : List ℕ) where
+  before_either : (n i end : ℕ) → i + n ≡ end → before (λ r. p r || q r) b n i end ≡ before q b (before p b n i end - i) i (before p b n i end)
+  unfolding first_bad kept_from test ◌⨾◌
+  before_either zero i end h = let z : end - i ≡ 0 = omega arith in rw z
+  before_either (suc n) i end h =
+      let m = before p b n (suc i) end in
+      let past : suc i ≤ m = before_from p b n (suc i) end (omega arith) in
+      let more : m - i ≡ suc (m - suc i) = omega arith in
+      let z : i - i ≡ 0 = omega arith in
+      by_test (p (get_or b (1 + i) 0, get_or b (257 + i) 0))
+      (λ e. simp (e, z))
+      (λ e. by_test (q (get_or b (1 + i) 0, get_or b (257 + i) 0)) (λ f. simp (e, f, more)) (λ f. simp (e, f, more) (before_either n (suc i) end (omega arith))))
+
+  -- the second test is asked of the rows before the first bad one by the first
+  pub first_bad_either : (n : ℕ) (said own : Result ℕ Refusal) (end first : ℕ) → said ≡ rows_as (first_bad p 0 (kept_from b n 0)) n → end ≡ rows_before said
+      → own ≡ rows_as (first_bad q 0 (kept_from b end 0)) end → first ≡ rows_before own
+      → rows_as (first_bad (λ r. p r || q r) 0 (kept_from b n 0)) n ≡ rows_as (test (ltb first n) tables_disagree first) n
+  first_bad_either n said own end first s e o f =
+      let e' : end ≡ before p b n 0 n = e ∙ ap rows_before s in
+      let f' : first ≡ before q b end 0 end = f ∙ ap rows_before o in
+      let g : before (λ r. p r || q r) b n 0 n ≡ before q b (before p b n 0 n) 0 (before p b n 0 n) = rw sub-zero at (before_either n 0 n (zero-add n)) in
+      ap (λ v. rows_as v n) (before_tells (λ r. p r || q r) b n 0 n (zero-add n))
+      ∙ ap (λ x. rows_as (test (ltb x n) tables_disagree x) n) (g ∙ ap (λ x. before q b x 0 x) (sym e') ∙ sym f')
+
 -- ---- ranges
 module _ (cap l : ℕ) (ok : bad_slots cap ≡ false) where
   -- what is done at a location's address
-  location_address : {A : Type 0} (f : ℕ → ℕ → A) (d : A) → cond (is_location cap l) (f (l / unit) (l % unit)) d ≡ by_address f d (unpacked cap l)
+  pub location_address : {A : Type 0} (f : ℕ → ℕ → A) (d : A) → cond (is_location cap l) (f (l / unit) (l % unit)) d ≡ by_address f d (unpacked cap l)
   unfolding unpacked
   location_address f d = by_test (is_location cap l)
       (λ h.

@@ -29,7 +29,11 @@ put_row_short w t i r n = go (leb (i * w + w) (length t))
     go true = simp (ne_eqb (length r) w n)
     go false = refl
 
-kept_row_stored : (w : ℕ) (t : List ℕ) (k l : ℕ) → l ≢ 0 → kept_row w t k l ≡ part w t k
+-- part of a row, past the end of the column
+pub part_short : (w : ℕ) (t : List ℕ) (k : ℕ) → 1 ≤ w → length t < k * w + w → length (part w t k) ≢ w
+part_short w t k p h e = omega (arith, length-take w (drop (k * w) t), length-drop (k * w) t)
+
+pub kept_row_stored : (w : ℕ) (t : List ℕ) (k l : ℕ) → l ≢ 0 → kept_row w t k l ≡ part w t k
 unfolding kept_row
 kept_row_stored w t k zero n = absurd (n refl)
 kept_row_stored w t k (suc l) n = refl

@@ -120,7 +120,7 @@ pend_same n xs ys l m h =
     λ d. word_same n (drop d xs) (drop d ys) (simp length-drop (omega arith)) (simp length-drop (omega arith)) (λ k. get_or-drop d xs k 0 ∙ h (d + k) ∙ sym (get_or-drop d ys k 0)) in
     ap₂ (λ (a b : ℕ). four a b (word (drop 171 xs)) (word xs)) (at 234) (at 230) ∙ ap₂ (λ (a b : ℕ). four (word (drop 234 ys)) (word (drop 230 ys)) a b) (at 171) (at 0)
 
-zeros : (n k : ℕ) → get_or {A = ℕ} (replicate n 0) k 0 ≡ 0
+pub zeros : (n k : ℕ) → get_or {A = ℕ} (replicate n 0) k 0 ≡ 0
 zeros n k =
     elim (dec_lt k n) [
       | yes u ↦ get_or-replicate {A = ℕ} n k 0 0 u

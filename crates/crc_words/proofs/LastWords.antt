@@ -91,7 +91,7 @@ past_with p q r s t w x u l m =
     turn_with 268 w x (past_of p q r s t) (past_of (bit_xor (bit_xor w x) (pulled q r s t)) p q r s) u (past_turn p q r s t (bit_xor w x) l m)
 
 -- nothing yet
-past_none : past_of 0 0 0 0 0 ≡ 0
+pub past_none : past_of 0 0 0 0 0 ≡ 0
 unfolding past_of num over pulled
 past_none = refl
 

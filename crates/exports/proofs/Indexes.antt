@@ -6,14 +6,15 @@ use mathlib.Core.Bool.{Bool, true, false, not, ◌&&◌}
 use mathlib.Core.List.{List, [], ◌∷◌}
 use Prim.Native.Nat.{ℕ, zero, suc, ◌+◌, ◌*◌, ◌<◌, ◌≤◌, pred}
 use native.Mathlib.Omega.{arith}
-use lib.Dec.{ltb}
+use lib.Dec.{eqb, ltb}
 use lib.ListN.{length, length-replicate, length-set, get_or, set, replicate}
 use lib.Seq.{get_or-set_other}
 use borrow.Author.Tests.{ltb-true, ltb-false, eqb-true, not-false}
 use Rattle.refusal.specs.declared.Kind.{Kind}
 use Rattle.refusal.specs.declared.Kind.TheVariants as K
+use Rattle.refusal.specs.Numbers.{is_unlisted}
 use Rattle.refusal.specs.Refusals.{number_of, tables_disagree}
-use Rattle.refusal.proofs.Tests.{and_true}
+use Rattle.refusal.proofs.Tests.{and_true, by_test}
 use Rattle.list_parts.specs.Lists.{elem}
 use Rattle.list_parts.proofs.Lists.{elem_not}
 use Rattle.keys.specs.Keys.{long_in, all_stored}
@@ -42,6 +43,12 @@ use Rattle.exports.proofs.Laws.{status_exact}
 
 -- ---- a number below 256, an index below b
 
+unlisted_small : (n : ℕ) → is_unlisted n ≡ true → n < 256
+unlisted_small n e = by_test (eqb n 0) (λ h. omega (arith, eqb-true n 0 h)) λ h. ltb-true n 256 (and_true (ltb 26 n) (ltb n 256) (past h)).1
+  where
+    past : eqb n 0 ≡ false → (ltb 26 n && ltb n 256) ≡ true
+    past h = rw h at e
+
 kinds_small : (k : Kind) → number_of k < 256
 kinds_small K.WrongShape = omega arith
 kinds_small K.TooLarge = omega arith
@@ -69,6 +76,7 @@ kinds_small K.BadMove = omega arith
 kinds_small K.NoFace = omega arith
 kinds_small K.BadFace = omega arith
 kinds_small K.TotalsRefused = omega arith
+kinds_small (K.Unlisted u) = unlisted_small u.number u.unlisted
 
 abbrev index_of : Verdict → ℕ
 index_of ok = 0

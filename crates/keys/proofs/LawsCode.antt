@@ -34,7 +34,7 @@ use Rattle.keys.proofs.Laws.{length_normal_of, all_stored_replicate}
 next_rows : (rows : List ℕ) (i : ℕ) → drop width (drop (i * width) rows) ≡ drop ((i + 1) * width) rows
 next_rows rows i = let e : i * width + width ≡ (i + 1) * width = omega arith in drop-drop width (i * width) rows ∙ ap (λ n. drop n rows) e
 
-long_in_next : (ss : List Bool) (rows : List ℕ) (i : ℕ) → i < length ss
+pub long_in_next : (ss : List Bool) (rows : List ℕ) (i : ℕ) → i < length ss
     → long_in (drop i ss) (drop (i * width) rows)
     ≡ (get_or ss i false && key_is_long (part width rows i)) ∷ long_in (drop (i + 1) ss) (drop ((i + 1) * width) rows)
 unfolding long_in

@@ -136,7 +136,11 @@ pub fn keep(column: &mut [u8], first: usize, stores: &[u8], rows: &[u8])
     };
     for (i, row) in rows.iter().enumerate() {
         // Where the sum would not fit there is no such row.
-        keep_row(column, first.saturating_add(i), is_store(stores[i]), row);
+        let index = first.saturating_add(i);
+        if column.len() / WIDTH <= index {
+            return;
+        }
+        keep_row(column, index, is_store(stores[i]), row);
     }
 }
 

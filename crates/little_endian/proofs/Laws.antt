@@ -49,6 +49,12 @@ pub word_cons : (l : List ℕ) (i : ℕ) → i < length l → word (drop i l) �
 unfolding word
 word_cons l i h = rw (drop-cons l i 0, add-one)
 
+pub word_at : (l : List ℕ) (i j : ℕ) → i ≡ j → word (drop i l) ≡ word (drop j l)
+word_at l i j e = ap (λ (k : ℕ). word (drop k l)) e
+
+pub word_two : (l : List ℕ) (i : ℕ) → i + 2 ≤ length l → word (drop i l) ≡ word (drop (i + 2) l) * 2 ^ 16 + (get_or l i 0 + get_or l (i + 1) 0 * 256)
+word_two l i h = omega (arith, word_cons l i (omega arith), word_cons l (i + 1) (omega arith), word_at l ((i + 1) + 1) (i + 2) (omega arith))
+
 -- the first k bytes are the lower part
 pub word_split : (k : ℕ) (l : List ℕ) → word l ≡ word (drop k l) * 256 ^ k + word (take k l)
 unfolding word

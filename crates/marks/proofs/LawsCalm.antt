@@ -43,6 +43,14 @@ unfolding has_other
 has_other_more mark ms m =
     rw (count_if_append (is_mark mark) ms (m ∷ []), length_push ms m) (other_more (count_if (is_mark mark) ms) (length ms) (is_mark mark m) (count_if_le (is_mark mark) ms))
 
+has_by : (found : Bool) (n : ℕ) → (found ≡ false → n ≡ 0) → (found ≡ true → 0 < n) → found ≡ not (eqb n 0)
+has_by false n none some = rw (none refl) refl
+has_by true n none some = rw (ne_eqb n 0 (λ h. let s = some refl in omega arith)) refl
+
+pub has_is : (mark : ℕ) (ms : List ℕ) (found : Bool) → (found ≡ false → count_if (is_mark mark) ms ≡ 0) → (found ≡ true → 0 < count_if (is_mark mark) ms) → found ≡ has_mark mark ms
+unfolding has_mark
+has_is mark ms found = has_by found (count_if (is_mark mark) ms)
+
 none_by : (n : ℕ) → not (eqb n 0) ≡ false → n ≡ 0
 none_by zero e = refl
 none_by (suc n) e = clash (rw (ne_eqb (suc n) 0 (λ h. omega arith)) at e)
@@ -51,11 +59,24 @@ pub has_none : (mark : ℕ) (ms : List ℕ) → has_mark mark ms ≡ false → c
 unfolding has_mark
 has_none mark ms = none_by (count_if (is_mark mark) ms)
 
+some_of : (n : ℕ) → not (eqb n 0) ≡ true → 0 < n
+some_of zero e = clash (sym e)
+some_of (suc n) e = omega arith
+
+pub has_some : (mark : ℕ) (ms : List ℕ) → has_mark mark ms ≡ true → 0 < count_if (is_mark mark) ms
+unfolding has_mark
+has_some mark ms = some_of (count_if (is_mark mark) ms)
+
 -- ---- none is free, or one is
 pub none_free_lem : (ms : List ℕ) → count_if (is_mark 0) ms ≡ 0 → first_free ms ≡ length ms
 none_free_lem [] e = refl
 none_free_lem (zero ∷ ms) e = absurd (omega arith)
 none_free_lem (suc m ∷ ms) e = ap suc (none_free_lem ms (rw (ne_eqb (suc m) 0 (λ h. omega arith)) at e))
+
+pub some_free : (ms : List ℕ) → 0 < count_if (is_mark 0) ms → first_free ms < length ms
+some_free [] h = omega arith
+some_free (zero ∷ ms) h = omega arith
+some_free (suc m ∷ ms) h = let r = some_free ms (rw (ne_eqb (suc m) 0 (λ e. omega arith)) at h) in omega arith
 
 -- ---- none is pending, where a 0 stays
 stays : (m : ℕ) (b : Bool) → eqb m 0 ≡ b → cond b 0 m ≡ m

@@ -6,8 +6,8 @@ use Prim.Native.Nat.{ℕ, zero, suc, ◌+◌, ◌-◌, ◌≤◌, ◌<◌}
 use native.Mathlib.Numerals.{add-one}
 use native.Mathlib.Omega.{arith}
 use lib.Dec.{eqb-suc-zero}
-use lib.ListN.{length, get_or, take, drop, set, take-append-drop, length-drop}
-use lib.Seq.{drop-cons, drop-drop, take_all, length-take-le}
+use lib.ListN.{length, get_or, take, drop, set, take-append-drop, length-drop, drop_of_length-le}
+use lib.Seq.{drop-cons, drop-drop, take-suc, take-add, take_all, length-take-le}
 use Rattle.std.specs.Prelude.{fold}
 use Rattle.std.specs.List.{count_by}
 use Rattle.marks.specs.Marks.{is_free, is_pending, is_held, is_taken, count_if, above, last_taken, tip_of, tip}
@@ -82,6 +82,9 @@ count_if_held_pending (suc m ∷ ms) =
 pub count_if_turn : (p : ℕ → Bool) (ms : List ℕ) (i : ℕ) → i < length ms → count_if p (drop i ms) ≡ weight (p (get_or ms i 0)) + count_if p (drop (i + 1) ms)
 count_if_turn p ms i h = rw (drop-cons ms i 0 h, add-one i) (count_if_cons p (get_or ms i 0) (drop (suc i) ms))
 
+pub count_if_end : (p : ℕ → Bool) (ms : List ℕ) (i : ℕ) → length ms ≤ i → count_if p (drop i ms) ≡ 0
+count_if_end p ms i h = rw (drop_of_length-le ms h)
+
 pub count_if_block : (p : ℕ → Bool) (ms : List ℕ) (i n : ℕ) → count_if p (drop i ms) ≡ count_if p (take n (drop i ms)) + count_if p (drop (i + n) ms)
 count_if_block p ms i n =
     rw (← drop-drop n i ms) (rw (take-append-drop n (drop i ms)) at (count_if_append p (take n (drop i ms)) (drop n (drop i ms))))
@@ -120,6 +123,24 @@ last_taken_over [] ys h = omega arith
 last_taken_over (x ∷ xs) ys h =
     let r = last_taken_over xs ys h in
     above_some (last_taken (xs ++ ys)) x (omega arith) ∙ omega arith
+
+pub last_taken_skip : (ms : List ℕ) (i n : ℕ) → last_taken (take n (drop i ms)) ≡ 0 → last_taken (take (i + n) ms) ≡ last_taken (take i ms)
+last_taken_skip ms i n e = rw (take-add i n ms) (last_taken_append (take i ms) (take n (drop i ms)) e)
+
+-- the last of the first i + 1 marks is free, or is the one
+pub last_taken_free : (ms : List ℕ) (i : ℕ) → i < length ms → get_or ms i 0 ≡ 0 → last_taken (take (suc i) ms) ≡ last_taken (take i ms)
+last_taken_free ms i h e = rw (take-suc ms i 0 h, e) (last_taken_append (take i ms) (0 ∷ []) refl)
+
+pub last_taken_here : (ms : List ℕ) (i : ℕ) → i < length ms → (get_or ms i 0 ≡ 0 → ⊥) → last_taken (take (suc i) ms) ≡ suc i
+last_taken_here ms i h n =
+    let one = last (get_or ms i 0) n in
+    let r = last_taken_over (take i ms) (get_or ms i 0 ∷ []) (omega arith) in
+    let l = length-take-le i ms (omega arith) in
+    rw (take-suc ms i 0 h) (omega arith)
+  where
+    last : (m : ℕ) → (m ≡ 0 → ⊥) → above 0 m ≡ 1
+    last zero q = absurd (q refl)
+    last (suc m) q = refl
 
 -- no number from there on is taken
 pub last_taken_above : (ms : List ℕ) (n : ℕ) → last_taken ms ≤ n → count_if is_taken (drop n ms) ≡ 0

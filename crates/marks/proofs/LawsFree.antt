@@ -1,13 +1,13 @@
 -- Laws of `first_free` and `smallest_free`: what a search finds is free, and nothing between is. By recursion over the marks. Assumes nothing.
-use mathlib.Core.List.{List, [], ◌∷◌}
+use mathlib.Core.List.{List, [], ◌∷◌, ◌++◌}
 use mathlib.Core.Logic.{◌⊎◌, inl, inr, ⊎_elim}
 use mathlib.Core.Path.{◌≡◌, refl, ap}
 use Prim.Native.Nat.{ℕ, zero, suc, ◌+◌, ◌≤◌, ◌<◌}
 use native.Mathlib.Nat.{suc-add}
 use native.Mathlib.Numerals.{add-one}
 use native.Mathlib.Omega.{arith}
-use lib.ListN.{length, get_or, drop, set, length-drop}
-use lib.Seq.{drop-drop}
+use lib.ListN.{length, get_or, take, drop, set, length-drop, take-append-drop, get_or-eq_default}
+use lib.Seq.{drop-drop, length-take-le}
 use lib.Dec.{ltb, eqb-suc-zero}
 use borrow.Author.Tests.{ltb-true, ltb-false}
 use Rattle.refusal.proofs.Tests.{by_test}
@@ -34,6 +34,19 @@ first_free_least (zero ∷ ms) j h e = omega arith
 first_free_least (suc m ∷ ms) zero h e = omega arith
 first_free_least (suc m ∷ ms) (suc j) h e = first_free_least ms j (omega arith) e
 
+-- marks of which none is free are passed over
+pub first_free_append : (xs ys : List ℕ) → first_free xs ≡ length xs → first_free (xs ++ ys) ≡ length xs + first_free ys
+first_free_append [] ys e = omega arith
+first_free_append (zero ∷ xs) ys e = absurd (omega arith)
+first_free_append (suc m ∷ xs) ys e = let r = first_free_append xs ys (omega arith) in omega arith
+
+-- a free one among the first n is the first
+pub first_free_near : (ms : List ℕ) (n : ℕ) → first_free (take n ms) < n → first_free (take n ms) ≡ first_free ms
+first_free_near ms zero h = omega arith
+first_free_near [] (suc n) h = refl
+first_free_near (zero ∷ ms) (suc n) h = refl
+first_free_near (suc m ∷ ms) (suc n) h = ap suc (first_free_near ms n (omega arith))
+
 -- ---- smallest_free
 pub smallest_free_ge : (from : ℕ) (ms : List ℕ) → from ≤ smallest_free from ms
 smallest_free_ge from ms = omega arith
@@ -56,6 +69,34 @@ smallest_free_least zero ms j g h e = first_free_least ms j (omega arith) e
 smallest_free_least (suc from) [] j g h e = omega (arith, h)
 smallest_free_least (suc from) (m ∷ ms) zero g h e = omega arith
 smallest_free_least (suc from) (m ∷ ms) (suc j) g h e = smallest_free_least from ms j (omega arith) (omega (arith, smallest_free_suc from m ms)) e
+
+pub smallest_free_here : (ms : List ℕ) (i : ℕ) → get_or ms i 0 ≡ 0 → smallest_free i ms ≡ i
+smallest_free_here [] zero e = refl
+smallest_free_here (zero ∷ ms) zero e = refl
+smallest_free_here (suc m ∷ ms) zero e = absurd (omega arith)
+smallest_free_here [] (suc i) e = omega arith
+smallest_free_here (m ∷ ms) (suc i) e = rw (smallest_free_suc i m ms) (ap suc (smallest_free_here ms i e))
+
+pub smallest_free_past : (ms : List ℕ) (i : ℕ) → length ms ≤ i → smallest_free i ms ≡ i
+smallest_free_past ms i h = smallest_free_here ms i (get_or-eq_default ms 0 h)
+
+smallest_free_up : (ms : List ℕ) (i : ℕ) → (get_or ms i 0 ≡ 0 → ⊥) → smallest_free i ms ≡ smallest_free (suc i) ms
+smallest_free_up [] i n = absurd (n refl)
+smallest_free_up (zero ∷ ms) zero n = absurd (n refl)
+smallest_free_up (suc m ∷ ms) zero n = omega arith
+smallest_free_up (m ∷ ms) (suc i) n = rw (smallest_free_suc i m ms, smallest_free_suc (suc i) m ms) (ap suc (smallest_free_up ms i n))
+
+pub smallest_free_next : (ms : List ℕ) (i : ℕ) → (get_or ms i 0 ≡ 0 → ⊥) → smallest_free i ms ≡ smallest_free (i + 1) ms
+smallest_free_next ms i n = rw add-one (smallest_free_up ms i n)
+
+-- a part of which none is free is passed over
+pub smallest_free_skip : (ms : List ℕ) (i n : ℕ) → i + n ≤ length ms → first_free (take n (drop i ms)) ≡ length (take n (drop i ms))
+    → smallest_free i ms ≡ smallest_free (i + n) ms
+smallest_free_skip ms i n h e =
+    let part : length (take n (drop i ms)) ≡ n = length-take-le n (drop i ms) (omega (arith, length-drop i ms)) in
+    let r = first_free_append (take n (drop i ms)) (drop n (drop i ms)) e in
+    let f : first_free (drop i ms) ≡ n + first_free (drop (i + n) ms) = rw (take-append-drop n (drop i ms), part, drop-drop n i ms) at r in
+    omega arith
 
 -- once the number found is taken, the next is found past it
 first_free_taken : (ms : List ℕ) → first_free ms < length ms → first_free (set ms (first_free ms) 1) ≡ smallest_free (suc (first_free ms)) ms

@@ -4,6 +4,7 @@
 #![tactic(auto)]
 
 ghost use Rattle.std.specs.Prelude.{◌≡◌, IfOk};
+ghost use Rattle.owned_tables.specs.Owned.{HasLengths};
 
 use address::SlabAddress;
 use carried::WIDTH;
@@ -25,7 +26,8 @@ pub struct OwnedTables {
 impl OwnedTables {
     // As long as a store of these capacities has them.
     pub fn zeroed(alloc: Global, caps: Capacities) -> Result<OwnedTables, AllocError>
-        ensures { IfOk result (λ tables. tables.caps ≡ caps) }
+        ensures caps { IfOk result (λ tables. tables.caps ≡ caps) }
+        ensures lengths { IfOk result (λ tables. HasLengths caps tables) }
     {
         let all_slots = caps.slots.saturating_mul(SlabAddress::SLABS);
         let rows = caps.ids.saturating_add(MOST_UPDATES);

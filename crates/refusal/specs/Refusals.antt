@@ -111,7 +111,7 @@ bad_face = K.BadFace
 abbrev pub totals_refused : Kind
 totals_refused = K.TotalsRefused
 
--- the number that the documents give it
+-- the number that the documents give it; an unlisted one is its own
 abbrev pub number_of : Kind → ℕ
 number_of K.WrongShape = 1
 number_of K.TooLarge = 2
@@ -139,3 +139,4 @@ number_of K.BadMove = 23
 number_of K.NoFace = 24
 number_of K.BadFace = 25
 number_of K.TotalsRefused = 26
+number_of (K.Unlisted u) = u.number

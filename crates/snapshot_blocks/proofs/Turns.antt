@@ -55,6 +55,10 @@ module _ (f : Format) (rows : List ℕ) (count : ℕ) where
   unfolding above entries_in
   above_done i start before h = let e : count - i ≡ zero = omega arith in rw e
 
+  pub ascending_none : count ≡ 0 → ascending (entries_in f count rows) ≡ true
+  unfolding ascending entries_in
+  ascending_none e = rw e
+
 -- before the first turn
 pub above_first : (f : Format) (rows : List ℕ) (count width before : ℕ) → f.width ≡ width → before ≡ get_at 0 8 rows
     → above before (entries_in f (count - 1) (drop ((16 + width) * 1) rows)) ≡ ascending (entries_in f count rows)

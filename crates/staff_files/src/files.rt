@@ -1,5 +1,6 @@
 // A file that is read whole, into memory of the length that it may have.
-ghost use Rattle.std.specs.Prelude.{◌≤◌, vec_len, IfOk};
+ghost use Rattle.std.specs.Prelude.{◌≡◌, ◌≤◌, ◌<◌, ◌+◌, ◌-◌, ◌^◌, ◌++◌, take, vec_len, IsTrue, IfOk, IfSome, OnOk};
+ghost use Rattle.std.specs.Io.KnownBytes.{IsAtEnd};
 
 use std::alloc::AllocError;
 use std::fs::File;
@@ -52,19 +53,36 @@ fn say_error(rt: &(impl Eprint + AllocGlobal), name: &[u8], error: io::Error) ->
     }
 }
 
-// All bytes of a file that has at most so many, and one more of a longer one. There is room for them before the first read.
-fn read(rt: &impl AllocGlobal, file: &mut impl Read, most: usize) -> Result<Vec<u8>, Unread>
-    ensures { IfOk result (λ bytes. vec_len bytes ≤ most) }
+// Adds all bytes of a file that has at most so many, and one more of a longer one.
+fn fill<R: Read>(file: &mut R, most: usize, bytes: &mut Vec<u8>) -> io::Result<usize>
+    ensures { most < 2 ^ 64 - 1 → OnOk result (IfSome (R.remaining file.old) (λ xs. bytes.new.items ≡ bytes.old.items ++ take (most + 1) xs)) }
 {
     let room = most.saturating_add(1);
-    let mut bytes = Vec::with_capacity(rt.alloc(), room)?;
-    let end = file.take(room as u64).read_to_end(&mut bytes);
+    file.take(room as u64).read_to_end(bytes)
+}
+
+// Whether nothing is left to be read: a read that fails leaves something, as at a bad place of the stick.
+fn is_at_end<R: Read>(file: &mut R) -> bool
+    ensures { IsTrue result → IsAtEnd (R.remaining file.new) }
+{
+    let mut more = [0; 1];
+    matches!(file.read(&mut more), Ok(0))
+}
+
+// All bytes of a file that has at most so many; there is room for them, and for one more, before the first read. Where the file ends it is asked once more: one that
+// goes on, as a terminal can, is not whole, and one that ends after a read that failed is.
+fn read<R: Read>(rt: &impl AllocGlobal, file: &mut R, most: usize) -> Result<Vec<u8>, Unread>
+    ensures count { IfOk result (λ bytes. vec_len bytes ≤ most) }
+    ensures end { OnOk result (IsAtEnd (R.remaining file.new)) }
+{
+    let mut bytes = Vec::with_capacity(rt.alloc(), most.saturating_add(1))?;
+    let _ = fill(file, most, &mut bytes);
     if most < bytes.len() {
         Err(Unread::TooLong)
-    } else if end.is_err() {
-        Err(Unread::CutShort)
-    } else {
+    } else if is_at_end(file) {
         Ok(bytes)
+    } else {
+        Err(Unread::CutShort)
     }
 }
 

@@ -4,6 +4,8 @@
 // A file is read row by row, so that the rows before a damaged block are shown.
 #![tactic(auto)]
 
+ghost use Rattle.std.specs.Prelude.{◌≡◌};
+
 use address::SlabAddress;
 use refusal::{Kind, Refusal};
 use snapshot::Position;
@@ -13,11 +15,15 @@ use std::env::Env;
 use std::rt::Files;
 use std::{fmt, io, str};
 
-// The snapshot of 65,535 rows, and no store has more.
-const LONGEST: usize = 13107 * BLOCK;
-
 // The most slots of a slab: a snapshot does not say its store's.
 const SLOTS: usize = SlabAddress::MOST_SLOTS;
+
+// The snapshot of 65,535 rows, and no store has more.
+fn longest() -> usize
+    ensures { 6710784 ≡ result }
+{
+    13107 * BLOCK
+}
 
 // A key as staff read it.
 #[derive(Clone, Copy)]
@@ -94,11 +100,12 @@ fn say_rows(rt: &impl Print, file: &[u8]) -> io::Result<()> {
 fn say_file<R: Files + Print + Eprint + AllocGlobal>(rt: &R, name: &[u8]) -> io::Result<()> {
     rt.write_all(name)?;
     println!(rt; ":")?;
-    match staff_files::load(rt, name, LONGEST) {
+    match staff_files::load(rt, name, longest()) {
         Ok(file) => say_rows(rt, &file),
         Err(Unread::Unopened) => println!(rt; "it cannot be read"),
         Err(Unread::TooLong) => println!(rt;
-            "it is longer than {LONGEST} bytes: no store's snapshot is"
+            "it is longer than {} bytes: no store's snapshot is",
+            longest()
         ),
         Err(Unread::CutShort) => println!(rt; "it could not be read to its end"),
         Err(Unread::Failed(error)) => Err(error),

@@ -1,9 +1,10 @@
 // Frames: document 01's three bytes in a slot of 64, the edges of each width of the length field, damaged slots, and slots with rubbish
 // between object and frame.
+ghost use Rattle.std.specs.Prelude.{◌≡◌, length};
+
 use crate::say::{Hex, Refused};
 use frame::Slab;
 use refusal::Refusal;
-use std::alloc::{AllocError, Global};
 use std::io;
 
 fn say_written(rt: &impl Print, w: Result<(), Refusal>) -> io::Result<()> {
@@ -20,20 +21,38 @@ fn say_verdict(rt: &impl Print, v: Result<usize, Refusal>) -> io::Result<()> {
     }
 }
 
-// So many bytes of a pattern that no two neighbours share.
-fn pattern(alloc: Global, length: usize) -> Result<Vec<u8>, AllocError> {
-    (0..length).map(|i| (i % 251) as u8).collect(alloc)
+// The longest slot here.
+const LONGEST: usize = 98304;
+
+// Space for a slot or an object; who has it is not inlined, so that no more than two stand on the stack at once. The length is all that a caller has to know, and a check
+// that knows more of so long an array takes longer.
+fn space() -> [u8; LONGEST]
+    ensures { 98304 ≡ length result }
+{
+    [0; LONGEST]
+}
+
+// A pattern that no two neighbours share.
+fn fill(part: &mut [u8]) {
+    for (i, byte) in part.iter_mut().enumerate() {
+        *byte = (i % 251) as u8;
+    }
 }
 
 // An object of n bytes is written into a slot of so many old ones, and read back.
-fn edge(rt: &(impl Print + AllocGlobal), size: usize, n: usize) -> io::Result<()> {
-    let mut slot = pattern(rt.alloc(), size)?;
-    let object = pattern(rt.alloc(), n)?;
+#[inline(never)]
+fn edge(rt: &impl Print, size: usize, n: usize) -> io::Result<()> {
+    let mut slots = space();
+    let mut objects = space();
+    let slot = &mut slots[..size.min(LONGEST)];
+    let object = &mut objects[..n.min(LONGEST)];
+    fill(slot);
+    fill(object);
     print!(rt; "frame {size} {n}")?;
-    say_written(rt, Slab::write(&mut slot, &object))?;
-    print!(rt; " {:08x}", crc32::hash(&slot))?;
-    say_verdict(rt, Slab::verdict(&slot))?;
-    println!(rt; " {:08x}", crc32::hash(Slab::read(&slot)))
+    say_written(rt, Slab::write(slot, object))?;
+    print!(rt; " {:08x}", crc32::hash(slot))?;
+    say_verdict(rt, Slab::verdict(slot))?;
+    println!(rt; " {:08x}", crc32::hash(Slab::read(slot)))
 }
 
 fn flip(slot: &mut [u8], at: usize) {
@@ -53,41 +72,37 @@ fn damaged(rt: &impl Print, at: usize) -> io::Result<()> {
 }
 
 // A slot whose length field says n, signed all the same.
-fn stored(
-    rt: &(impl Print + AllocGlobal),
-    size: usize,
-    start: usize,
-    end: usize,
-    n: u64,
-) -> io::Result<()> {
-    let mut slot = pattern(rt.alloc(), size)?;
-    little_endian::put_at(&mut slot, start, end, n);
-    seal::write(&mut slot);
+#[inline(never)]
+fn stored(rt: &impl Print, size: usize, start: usize, end: usize, n: u64) -> io::Result<()> {
+    let mut slots = space();
+    let slot = &mut slots[..size.min(LONGEST)];
+    fill(slot);
+    little_endian::put_at(slot, start, end, n);
+    seal::write(slot);
     print!(rt; "stored {size} {n}")?;
-    say_verdict(rt, Slab::verdict(&slot))?;
+    say_verdict(rt, Slab::verdict(slot))?;
     println!(rt)
 }
 
 // A written slot with one byte changed, signed all the same.
-fn gap(rt: &(impl Print + AllocGlobal), size: usize, n: usize, at: usize) -> io::Result<()> {
-    let mut slot = vec![in rt.alloc(); 0; size]?;
-    let object = pattern(rt.alloc(), n)?;
-    let _ = Slab::write(&mut slot, &object);
-    flip(&mut slot, at);
-    seal::write(&mut slot);
+#[inline(never)]
+fn gap(rt: &impl Print, size: usize, n: usize, at: usize) -> io::Result<()> {
+    let mut slots = space();
+    let mut objects = space();
+    let slot = &mut slots[..size.min(LONGEST)];
+    let object = &mut objects[..n.min(LONGEST)];
+    fill(object);
+    let _ = Slab::write(slot, object);
+    flip(slot, at);
+    seal::write(slot);
     print!(rt; "gap {size} {n} {at}")?;
-    say_verdict(rt, Slab::verdict(&slot))?;
+    say_verdict(rt, Slab::verdict(slot))?;
     println!(rt)
 }
 
 // Behind three bytes the gap's first place, one in its middle and its last; the first of a whole room; the one place behind the
 // longest object but one; and the object's own last byte, which may be anything.
-fn gaps(
-    rt: &(impl Print + AllocGlobal),
-    size: usize,
-    middle: usize,
-    last: usize,
-) -> io::Result<()> {
+fn gaps(rt: &impl Print, size: usize, middle: usize, last: usize) -> io::Result<()> {
     for (n, at) in [(3, 3), (3, middle), (3, last), (0, 0), (last, last), (3, 2)] {
         gap(rt, size, n, at)?;
     }
@@ -136,7 +151,7 @@ const LENGTH_FIELDS: [(usize, usize, usize, u64); 10] = [
     (64, 59, 60, 0),
 ];
 
-pub fn run(rt: &(impl Print + AllocGlobal)) -> io::Result<()> {
+pub fn run(rt: &impl Print) -> io::Result<()> {
     three_bytes(rt)?;
     for (size, n) in EDGES {
         edge(rt, size, n)?;

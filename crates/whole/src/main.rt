@@ -3,13 +3,23 @@
 
 use address::SlabAddress;
 use carried::WIDTH;
-use owned_tables::OwnedTables;
 use refusal::Refusal;
-use std::alloc::{AllocError, Global};
 use std::io;
-use tables::Capacities;
+use tables::{BATCH_WORDS, Capacities, MOST_UPDATES, TALLY_WORDS};
+
+const IDS: usize = 9;
 
 const SLOTS: usize = 8;
+
+const ALL_SLOTS: usize = SlabAddress::SLABS * SLOTS;
+
+const CAPS: Capacities = Capacities {
+    ids: IDS,
+    slots: SLOTS,
+};
+
+// The most objects of an offer.
+const OBJECTS: usize = 8;
 
 // What becomes of the object of an id, as an offer takes it.
 #[derive(Clone, Copy)]
@@ -28,82 +38,94 @@ const FREE: Update = Update {
     length: 0,
 };
 
+// The seven tables.
 #[derive(Drop)]
-struct Store(OwnedTables);
+struct Store {
+    id_marks: [u8; IDS],
+    locations: [u64; IDS],
+    slot_marks: [u8; ALL_SLOTS],
+    owners: [u64; ALL_SLOTS],
+    batch: [u64; BATCH_WORDS],
+    tallies: [u64; TALLY_WORDS],
+    carried: [u8; (IDS + MOST_UPDATES) * WIDTH],
+}
 
 impl Store {
-    fn fresh(alloc: Global) -> Result<Store, AllocError> {
-        let caps = Capacities {
-            ids: 9,
-            slots: SLOTS,
-        };
-        let mut tables = OwnedTables::zeroed(alloc, caps)?;
+    fn zeroed() -> Store {
+        Store {
+            id_marks: [0; IDS],
+            locations: [0; IDS],
+            slot_marks: [0; ALL_SLOTS],
+            owners: [0; ALL_SLOTS],
+            batch: [0; BATCH_WORDS],
+            tallies: [0; TALLY_WORDS],
+            carried: [0; (IDS + MOST_UPDATES) * WIDTH],
+        }
+    }
+
+    fn fresh() -> Store {
+        let mut store = Self::zeroed();
         let _ = rebuild::fresh(
-            caps,
-            &mut tables.id_marks,
-            &mut tables.locations,
-            &mut tables.slot_marks,
-            &mut tables.owners,
-            &mut tables.batch,
-            &mut tables.tallies,
-            &mut tables.carried,
+            CAPS,
+            &mut store.id_marks,
+            &mut store.locations,
+            &mut store.slot_marks,
+            &mut store.owners,
+            &mut store.batch,
+            &mut store.tallies,
+            &mut store.carried,
         );
-        Ok(Store(tables))
+        store
     }
 
     fn allocate_id(&mut self) {
-        let tables = &mut self.0;
         let _ = object_ids::allocate_object_id(
-            tables.caps,
-            &mut tables.id_marks,
-            &tables.batch,
-            &mut tables.tallies,
+            CAPS,
+            &mut self.id_marks,
+            &self.batch,
+            &mut self.tallies,
         );
     }
 
-    fn offer(&mut self, alloc: Global, ids: &[u64], update: Update) -> Result<(), AllocError> {
-        let count = ids.len();
-        let tables = &mut self.0;
+    fn offer(&mut self, ids: &[u64], update: Update) {
+        let count = ids.len().min(OBJECTS);
         let _ = offer::offer(
-            tables.caps,
-            &tables.id_marks,
-            &tables.locations,
-            &mut tables.slot_marks,
-            &tables.owners,
-            &mut tables.batch,
-            &mut tables.tallies,
-            &mut tables.carried,
+            CAPS,
+            &self.id_marks,
+            &self.locations,
+            &mut self.slot_marks,
+            &self.owners,
+            &mut self.batch,
+            &mut self.tallies,
+            &mut self.carried,
             ids,
-            &vec![in alloc; update.stores; count]?,
-            &vec![in alloc; update.length; count]?,
-            &vec![in alloc; 0; count.saturating_mul(WIDTH)]?,
-            &mut vec![in alloc; 0; count]?,
+            &[update.stores; OBJECTS][..count],
+            &[update.length; OBJECTS][..count],
+            &[0; OBJECTS * WIDTH][..count * WIDTH],
+            &mut [0; OBJECTS][..count],
         );
-        Ok(())
     }
 
     fn commit(&mut self) {
-        let tables = &mut self.0;
         let _ = commit::commit(
-            tables.caps,
-            &mut tables.id_marks,
-            &mut tables.locations,
-            &mut tables.slot_marks,
-            &mut tables.owners,
-            &mut tables.batch,
-            &mut tables.tallies,
-            &mut tables.carried,
+            CAPS,
+            &mut self.id_marks,
+            &mut self.locations,
+            &mut self.slot_marks,
+            &mut self.owners,
+            &mut self.batch,
+            &mut self.tallies,
+            &mut self.carried,
         );
     }
 
     fn release(&mut self) {
-        let tables = &mut self.0;
         let _ = release::release(
-            tables.caps,
-            &mut tables.id_marks,
-            &mut tables.slot_marks,
-            &tables.batch,
-            &mut tables.tallies,
+            CAPS,
+            &mut self.id_marks,
+            &mut self.slot_marks,
+            &self.batch,
+            &mut self.tallies,
         );
     }
 
@@ -114,12 +136,12 @@ impl Store {
         locations: &mut [u64],
     ) -> Result<usize, Refusal> {
         defrag::objects_to_defrag(
-            self.0.caps,
-            &self.0.locations,
-            &self.0.slot_marks,
-            &self.0.owners,
-            &self.0.batch,
-            &self.0.tallies,
+            CAPS,
+            &self.locations,
+            &self.slot_marks,
+            &self.owners,
+            &self.batch,
+            &self.tallies,
             r,
             ids,
             locations,
@@ -153,13 +175,13 @@ fn say_defrag(rt: &impl Print, store: &Store) -> io::Result<()> {
 }
 
 fn main(rt: HostRuntime) -> io::Result<()> {
-    let mut store = Store::fresh(rt.alloc())?;
+    let mut store = Store::fresh();
     for _ in 0..8 {
         store.allocate_id();
     }
-    store.offer(rt.alloc(), &[1, 2, 3, 4, 5, 6, 7, 8], STORE_THREE_BYTES)?;
+    store.offer(&[1, 2, 3, 4, 5, 6, 7, 8], STORE_THREE_BYTES);
     store.commit();
-    store.offer(rt.alloc(), &[1, 2, 3, 5, 7], FREE)?;
+    store.offer(&[1, 2, 3, 5, 7], FREE);
     store.commit();
     store.release();
     say_defrag(&rt, &store)

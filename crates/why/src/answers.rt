@@ -82,7 +82,7 @@ pub fn answer<'a, R: Files + Env + Print + Eprint + AllocGlobal>(
     asked: Range<usize>,
 ) -> Result<(), NoAnswer<'a>> {
     let ratio = Ratio::of(typed)?;
-    let file = staff_files::load(rt, name, store::LONGEST)?;
+    let file = staff_files::load(rt, name, store::longest())?;
     let rows = Rows::of_file(rt.alloc(), &file)?;
     let store = Store::of_rows(rt.alloc(), &rows)?;
     if asked.is_empty() {

@@ -47,16 +47,17 @@ fn say_group<R: Files + Env + Print + Eprint + AllocGlobal>(
 
 fn main(rt: HostRuntime) -> io::Result<()> {
     let count = staff_files::word_count(&rt);
-    if count < 2 || !words::is_file(&rt, 1) {
+    let mut next = words::next_file(&rt, 1, count);
+    if count < 2 || next != 1 {
         println!(rt;
             "why FILE ratio=0.75 [id=8 ..] ..: why objects of snapshot files are to be moved, or are not; without an id, each row's"
         )?;
     }
     for file in 1..count {
-        if words::is_file(&rt, file) {
+        if file == next {
             let behind = file + 1;
-            let end = words::next_file(&rt, behind, count);
-            say_group(&rt, file, behind..end)?;
+            next = words::next_file(&rt, behind, count);
+            say_group(&rt, file, behind..next)?;
         }
     }
     Ok(())

@@ -1,4 +1,6 @@
 // The words that the program is started with. One that begins with ratio= or id= says that; any other names a file.
+ghost use Rattle.std.specs.Prelude.{◌≤◌};
+
 use staff_files::PATH_MAX;
 use std::env::Env;
 
@@ -7,15 +9,19 @@ pub const RATIO: &[u8] = b"ratio=";
 pub const ID: &[u8] = b"id=";
 
 // A word that is longer than the space has its start there, which tells as well.
-pub fn is_file(env: &impl Env, i: usize) -> bool {
+fn is_file(env: &impl Env, i: usize) -> bool {
     let mut space = [0; PATH_MAX];
     let _ = env.arg(i, &mut space);
     !(space.starts_with(RATIO) || space.starts_with(ID))
 }
 
-// The first file from a place on, or the end.
-pub fn next_file(env: &impl Env, from: usize, end: usize) -> usize {
-    (from..end).find(|i| is_file(env, *i)).unwrap_or(end)
+// The first file from a place on, or the end; the place itself where the end is before it.
+pub fn next_file(env: &impl Env, from: usize, end: usize) -> usize
+    ensures { from ≤ result }
+{
+    (from..end)
+        .find(|i| is_file(env, *i))
+        .unwrap_or(end.max(from))
 }
 
 // The number with one digit more.

@@ -8,7 +8,7 @@ use native.Mathlib.Nat.{suc-ne-zero}
 use native.Mathlib.Omega.{arith}
 use lib.Bits.{bit_or, bit_and, or_add_and, and_le_l, and_comm}
 use lib.Dec.{eqb}
-use lib.ListN.{length, take, drop, replicate, length-take}
+use lib.ListN.{length, take, drop, replicate, length-take, drop_of_length-le}
 use lib.Seq.{take_all, drop-drop}
 use borrow.Author.Tests.{eq-eqb, ne_eqb}
 use Rattle.refusal.proofs.Tests.{all, and_true, both_ways}
@@ -93,17 +93,16 @@ all_zero_turn l i w any r e =
     ∙ ap (λ (x : List ℕ). eqb (bit_or any r) 0 && all_zero x) (drop-drop w i l)
 
 -- nothing is left
-all_zero_end : (l : List ℕ) (any : ℕ) → length l ≡ 0 → (eqb any 0 && all_zero l) ≡ eqb any 0
+pub all_zero_end : (l : List ℕ) (i any : ℕ) → length l ≤ i → (eqb any 0 && all_zero (drop i l)) ≡ eqb any 0
 unfolding all_zero
-all_zero_end [] any h = B.and-true (eqb any 0)
-all_zero_end (b ∷ bs) any h = absurd (suc-ne-zero (length bs) h)
+all_zero_end l i any h = ap (λ (x : List ℕ). eqb any 0 && all_zero x) (drop_of_length-le l h) ∙ B.and-true (eqb any 0)
 
 -- ---- the bits of k words together, and those of a
 abbrev pub join_word : ℕ → List ℕ → ℕ
 join_word a w = bit_or a (sum_through (λ i. byte_worth i (get_or w i 0)) 7)
 
 pub joined_words : (k : ℕ) (l : List ℕ) (a : ℕ) → length l ≡ k * 8 → eqb (fold join_word a (first_chunks 8 k l)) 0 ≡ (eqb a 0 && all_zero l)
-joined_words zero l a h = sym (all_zero_end l a (omega (arith, h)))
+joined_words zero l a h = sym (all_zero_end l 0 a (omega (arith, h)))
 joined_words (suc k) l a h =
     let w = take 8 l in
     let n : length w ≤ 8 = rw (length-take 8 l) (omega arith) in
