@@ -106,6 +106,7 @@ fn taken_below(marks: &[u8], hint: usize, n: usize) -> usize
     id_allocator::live(first(marks, n), hint)
 }
 
+#[inline(always)]
 fn stands_at(slots: usize, slot_marks: &[u8], tallies: &[u64], address: SlabAddress) -> Standing
     requires { address.slab < slabs }
     ensures { result ≡ standing_in slots slot_marks.now tallies.now address }
@@ -136,7 +137,7 @@ fn by_line(standing: Standing, line: usize) -> Reason
     }
 }
 
-// Of an object by its slab. Inlined: without, a call takes some 3 ns more.
+// Of an object by its slab. It is inlined, and so is `stands_at`: handed over in memory a standing takes a fifth of a call.
 #[inline(always)]
 fn reason_at(
     slots: usize,
